@@ -1,0 +1,4 @@
+pub mod Order
+pub mod Board
+pub mod Legal
+pub mod Atlas

@@ -1,0 +1,3 @@
+pub mod TriTables
+pub mod SpanMeaning
+pub mod Shuffled

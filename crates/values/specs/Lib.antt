@@ -1,0 +1,5 @@
+pub mod Fold
+pub mod Tri
+pub mod Span
+pub mod Laws
+pub mod Shuffle
