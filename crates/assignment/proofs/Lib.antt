@@ -1,0 +1,4 @@
+pub mod Steps
+pub mod Aimed
+pub mod Tabled
+pub mod Kept

@@ -1,0 +1,12 @@
+use mathlib.Core.Path.{_≡_}
+use Prim.Native.Nat.{_≤_}
+use lib.ListN.{drop, length}
+use Rattle.assignment.specs.Assignment.{entered}
+use Rattle.assignment.proofs.Aimed.{Cursor}
+use Rattle.assignment.proofs.dislodge.entered.Given as given
+
+abbrev pub Inv-loop-cursor : given.InvT-loop-cursor
+Inv-loop-cursor l = Cursor (l .r) (l .cursor) (l .xs) × (l .acc ≡ entered (l .r) (drop (l .cursor) (l .xs))) × (l .cursor ≤ length (l .xs))
+
+abbrev pub μ-loop-cursor : given.MeasureT-loop-cursor
+μ-loop-cursor l = l .cursor
