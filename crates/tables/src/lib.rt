@@ -1,0 +1,4 @@
+// Tables by region.
+pub mod table;
+
+pub use table::filled;
