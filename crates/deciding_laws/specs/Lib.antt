@@ -1,0 +1,10 @@
+pub mod Assignments
+pub mod Plain
+pub mod PlainAgrees
+pub mod Answers
+pub mod Consistent
+pub mod Forced
+pub mod Dislodged
+pub mod Rounds
+pub mod UnitsApart
+pub mod Promises
