@@ -1,0 +1,9 @@
+pub mod Drawn
+pub mod Chains
+pub mod Strengths
+pub mod Deciding
+pub mod AfterMoves
+pub mod Retreats
+pub mod Winter
+pub mod Standing
+pub mod Turns

@@ -1,0 +1,3 @@
+pub mod Edges
+pub mod Deciding
+pub mod Turns

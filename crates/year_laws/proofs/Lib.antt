@@ -1,0 +1,15 @@
+pub mod Members
+pub mod Sorted
+pub mod Number
+pub mod LawfulFacts
+pub mod Orders
+pub mod Texts
+pub mod Moved
+pub mod Barred
+pub mod Retreats
+pub mod Owners
+pub mod Winter
+pub mod Winters
+pub mod Counted
+pub mod Kept
+pub mod Moves
