@@ -1,0 +1,4 @@
+pub mod Split
+pub mod Numbers
+pub mod Calls
+pub mod Print
