@@ -1,0 +1,4 @@
+pub mod Due
+pub mod Telling
+pub mod Begun
+pub mod Running

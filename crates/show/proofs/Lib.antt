@@ -1,0 +1,4 @@
+pub mod Lines
+pub mod Tabled
+pub mod Marked
+pub mod Going

@@ -1,0 +1,10 @@
+use mathlib.Core.Path.{_≡_}
+use mathlib.Core.List.{_++_}
+use lib.ListN.{getD}
+use Rattle.std.specs.declared.option.Option.the-variants.{None}
+use Rattle.std.specs.Of.Vec.{vec-items}
+use Rattle.show.specs.Game.{byRegion, ownerLine}
+use Rattle.show.proofs.game.push_owners.Given as given
+
+abbrev pub Inv-loop-r : given.InvT-loop-r
+Inv-loop-r g l = vec-items (l .out) ≡ vec-items (l .entry .out) ++ byRegion (l .r) (λ r. ownerLine (g .N·Named .named (l .names)) r (getD (l .owners) r None))

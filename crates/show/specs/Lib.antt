@@ -1,0 +1,5 @@
+pub mod Words
+pub mod Game
+pub mod Reports
+pub mod Refusal
+pub mod Tables

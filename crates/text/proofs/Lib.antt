@@ -1,0 +1,4 @@
+pub mod Steps
+pub mod Lookups
+pub mod Reading
+pub mod Blocks

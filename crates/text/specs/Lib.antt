@@ -1,0 +1,9 @@
+pub mod Refusal
+pub mod Lines
+pub mod Words
+pub mod Reader
+pub mod Names
+pub mod BoardFile
+pub mod GameFile
+pub mod OrdersFile
+pub mod Files
