@@ -9,13 +9,13 @@ use Rattle.adjudicator.proofs.advance.autumn_retreats.Goals as goal
 use Rattle.adjudicator.proofs.advance.autumn_retreats.Goals.{After-clear}
 
 -- the tables are the next game
-onward : (c : After-clear) → made_of (board_of c.args.p.now) Winter (vec_items c.in-ok-units.units) (vec_items c.clear.new.self) empty (vec_items c.in-ok-owners.owners) ≡ turn (board_of c.args.p.now) (game_of c.args.p.now) (vec_items c.args.texts.now.list)
+onward : (c : After-clear) → made_of (board_of c.args.p.now) Winter (vec_items c.in_ok-units.units) (vec_items c.clear.new.self) empty (vec_items c.in_ok-owners.owners) ≡ turn (board_of c.args.p.now) (game_of c.args.p.now) (vec_items c.args.texts.now.list)
 onward c =
     let m = board_of c.args.p.now in
     let g = game_of c.args.p.now in
     let ws = vec_items c.args.texts.now.list in
-    after_autumn m g ws (vec_items c.in-ok-units.units) (vec_items c.clear.new.self) (vec_items c.in-ok-owners.owners) c.requires c.in-ok-units.ensures (search rules)
-    (c.in-ok-owners.ensures ∙ (λ i. owners_from 0 m.regions (c.as-slice.ensures.value i) (c.as-slice-2.ensures.value i)))
+    after_autumn m g ws (vec_items c.in_ok-units.units) (vec_items c.clear.new.self) (vec_items c.in_ok-owners.owners) c.requires c.in_ok-units.ensures (search rules)
+    (c.in_ok-owners.ensures ∙ (λ i. owners_from 0 m.regions (c.as_slice.ensures.value i) (c.as_slice-2.ensures.value i)))
 
 pub invariant-of-p-2 : goal.invariant-of-p-2
 invariant-of-p-2 c =

@@ -8,12 +8,12 @@ use Rattle.adjudicator.proofs.advance.moves.Goals as goal
 use Rattle.adjudicator.proofs.advance.moves.Goals.{After-next-p}
 
 -- the tables are the next game
-onward : (c : After-next-p) → made_of (board_of c.args.p.now) c.next-p.result (vec_items c.in-ok-moved.moved.units) (vec_items c.in-ok-moved.moved.dislodged) c.in-ok-moved.moved.barred (vec_items c.args.p.now.owners) ≡ turn (board_of c.args.p.now) (game_of c.args.p.now) (vec_items c.args.texts.now.list)
+onward : (c : After-next-p) → made_of (board_of c.args.p.now) c.next-p.result (vec_items c.in_ok-moved.moved.units) (vec_items c.in_ok-moved.moved.dislodged) c.in_ok-moved.moved.barred (vec_items c.args.p.now.owners) ≡ turn (board_of c.args.p.now) (game_of c.args.p.now) (vec_items c.args.texts.now.list)
 onward c =
     let m = board_of c.args.p.now in
     let g = game_of c.args.p.now in
     let ws = vec_items c.args.texts.now.list in
-    after-moves m g ws c.next-p.result (vec_items c.in-ok-moved.moved.units) (vec_items c.in-ok-moved.moved.dislodged) c.in-ok-moved.moved.barred c.requires c.next-p.ensures c.in-ok-moved.ensures.moved.units c.in-ok-moved.ensures.moved.dislodged c.in-ok-moved.ensures.moved.barred
+    after-moves m g ws c.next-p.result (vec_items c.in_ok-moved.moved.units) (vec_items c.in_ok-moved.moved.dislodged) c.in_ok-moved.moved.barred c.requires c.next-p.ensures c.in_ok-moved.ensures.moved.units c.in_ok-moved.ensures.moved.dislodged c.in_ok-moved.ensures.moved.barred
 
 pub invariant-of-p : goal.invariant-of-p
 invariant-of-p c =
@@ -21,4 +21,4 @@ invariant-of-p c =
     (stays-lawful (board_of p) (game_of p) (vec_items c.args.texts.now.list) p.atlas.good p.legal _ (onward c), tt)
 
 pub returns : goal.returns
-returns c = record { board = refl; game = onward (goal.at.returns c).After-next-p; reports = c.in-ok-moved.ensures.moved.reports }
+returns c = record { board = refl; game = onward (goal.at.returns c).After-next-p; reports = c.in_ok-moved.ensures.moved.reports }

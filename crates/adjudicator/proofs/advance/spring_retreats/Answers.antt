@@ -8,12 +8,12 @@ use Rattle.adjudicator.proofs.advance.spring_retreats.Goals as goal
 use Rattle.adjudicator.proofs.advance.spring_retreats.Goals.{After-clear}
 
 -- the tables are the next game
-onward : (c : After-clear) → made_of (board_of c.args.p.now) AutumnMoves (vec_items c.in-ok-units.units) (vec_items c.clear.new.self) empty (vec_items c.args.p.now.owners) ≡ turn (board_of c.args.p.now) (game_of c.args.p.now) (vec_items c.args.texts.now.list)
+onward : (c : After-clear) → made_of (board_of c.args.p.now) AutumnMoves (vec_items c.in_ok-units.units) (vec_items c.clear.new.self) empty (vec_items c.args.p.now.owners) ≡ turn (board_of c.args.p.now) (game_of c.args.p.now) (vec_items c.args.texts.now.list)
 onward c =
     let m = board_of c.args.p.now in
     let g = game_of c.args.p.now in
     let ws = vec_items c.args.texts.now.list in
-    after_spring m g ws (vec_items c.in-ok-units.units) (vec_items c.clear.new.self) c.requires c.in-ok-units.ensures (search rules)
+    after_spring m g ws (vec_items c.in_ok-units.units) (vec_items c.clear.new.self) c.requires c.in_ok-units.ensures (search rules)
 
 pub invariant-of-p : goal.invariant-of-p
 invariant-of-p c =

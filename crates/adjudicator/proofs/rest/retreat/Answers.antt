@@ -4,4 +4,4 @@ use Rattle.adjudicator.proofs.rest.retreat.Goals as goal
 
 pub returns : goal.returns
 returns c =
-    c.in-ok-units.ensures (game_of c.args.p.now) (record { units = sym c.as-slice.ensures.value; dislodged = sym c.as-slice-2.ensures.value; barred = c.barred-regions.ensures })
+    c.in_ok-units.ensures (game_of c.args.p.now) (record { units = sym c.as_slice.ensures.value; dislodged = sym c.as_slice-2.ensures.value; barred = c.barred_regions.ensures })

@@ -16,8 +16,8 @@ loop-i-init c = struck_none (board_of c.args.atlas.now) c.args.xs.now (length c.
 pub bounds-paths-i : goal.bounds-paths-i
 bounds-paths-i c = omega (arith, ap length c.requires ∙ length-map c.args.xs.now (λ x. path (board_of c.args.atlas.now) x c.args.xs.now))
 
-pub loop-i-preserved-then-is-repelled : goal.loop-i-preserved-then-is-repelled
-loop-i-preserved-then-is-repelled c =
+pub loop-i-preserved-then-is_repelled : goal.loop-i-preserved-then-is_repelled
+loop-i-preserved-then-is_repelled c =
     let m = board_of c.args.atlas.now in
     let xs = c.args.xs.now in
     let i = c.loop-i.i - 1 in
@@ -25,7 +25,7 @@ loop-i-preserved-then-is-repelled c =
     let low : i < length xs = omega arith in
     let e : c.loop-i.i ≡ i + 1 = omega arith in
     let kept = subst (λ n. Struck m xs (has c.loop-i.s) (drop n xs)) e c.loop-i.invariant in
-    let is = ap (λ t. repelled x t && ltb (aim x.order) (length m.regions)) (sym (path-at m xs c.args.paths.now i c.requires low)) ∙ sym c.is-repelled.ensures ∙ c.if-is-repelled.true in
+    let is = ap (λ t. repelled x t && ltb (aim x.order) (length m.regions)) (sym (path-at m xs c.args.paths.now i c.requires low)) ∙ sym c.is_repelled.ensures ∙ c.if-is_repelled.true in
     struck_hit m xs i low (has c.loop-i.s) kept c.aim.result (has c.insert.new.self) c.aim.ensures is c.insert.ensures
 
 pub loop-i-preserved : goal.loop-i-preserved
@@ -37,7 +37,7 @@ loop-i-preserved c =
     let low : i < length xs = omega arith in
     let e : c.loop-i.i ≡ i + 1 = omega arith in
     let kept = subst (λ n. Struck m xs (has c.loop-i.s) (drop n xs)) e c.loop-i.invariant in
-    let is = ap (λ t. repelled x t && ltb (aim x.order) (length m.regions)) (sym (path-at m xs c.args.paths.now i c.requires low)) ∙ sym c.is-repelled.ensures ∙ c.if-is-repelled.false in
+    let is = ap (λ t. repelled x t && ltb (aim x.order) (length m.regions)) (sym (path-at m xs c.args.paths.now i c.requires low)) ∙ sym c.is_repelled.ensures ∙ c.if-is_repelled.false in
     struck_miss m xs i low (has c.loop-i.s) kept is
 
 pub returns : goal.returns

@@ -8,7 +8,7 @@ returns-then-failed c = λ xs arrived.
     let k = dislodged_is c.args.table.now xs c.args.x (get_or c.args.table.now c.args.x.unit.region Nobody) arrived (omega arith) c.requires refl in
     search rules
 
-pub returns-else-is-move : goal.returns-else-is-move
-returns-else-is-move c = λ xs arrived.
+pub returns-else-is_move : goal.returns-else-is_move
+returns-else-is_move c = λ xs arrived.
     let k = dislodged_is c.args.table.now xs c.args.x (get_or c.args.table.now c.args.x.unit.region Nobody) arrived (omega arith) c.requires refl in
     search rules

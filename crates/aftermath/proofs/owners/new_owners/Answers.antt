@@ -14,9 +14,9 @@ loop-r-preserved c =
     let olds = c.args.owners.now in
     let r = c.loop-r.r in
     let small = board_small (board_of atlas) atlas.good in
-    ap (λ l. l ++ owners_from (r + 1) (drop (r + 1) qs) us (drop (r + 1) olds)) c.in-ok-push.ensures.items ∙
-    owner_step qs us olds (vec_items c.in-ok-table.table) (vec_items c.loop-r.out) r c.index.result.now c.index-in-loop-r.result.now c.owner-of.result c.in-ok-table.ensures.1
-    (search rules) (search rules) (search rules) (search rules) c.index.ensures c.index-in-loop-r.ensures c.owner-of.ensures ∙
+    ap (λ l. l ++ owners_from (r + 1) (drop (r + 1) qs) us (drop (r + 1) olds)) c.in_ok-push.ensures.items ∙
+    owner_step qs us olds (vec_items c.in_ok-table.table) (vec_items c.loop-r.out) r c.index.result.now c.index-in-loop-r.result.now c.owner_of.result c.in_ok-table.ensures.1
+    (search rules) (search rules) (search rules) (search rules) c.index.ensures c.index-in-loop-r.ensures c.owner_of.ensures ∙
     c.loop-r.invariant
 
 pub returns : goal.returns

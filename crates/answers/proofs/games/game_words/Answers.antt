@@ -9,11 +9,11 @@ pub returns : goal.returns
 returns c =
     let p = c.args.p.now in
     let n = c.len-n.ensures ∙ p.atlas.regions.ok.0 in
-    let count = put _ _ [] _ (length (vec_items p.units) ∷ []) c.in-ok-push.ensures.items c.new-out.ensures.items (ap (λ k. k ∷ []) (c.len.ensures ∙ p.units.ok.0)) in
-    let units = put _ _ _ _ (in_order unit_words (λ u. u.region) (length (vec_items p.atlas.regions)) (vec_items p.units)) c.in-ok-push-in-order.ensures count (rw (n, c.as-slice.ensures.value) refl) in
-    let owners = put _ _ _ _ (map one_more (vec_items p.owners)) c.in-ok-push-owners.ensures units (ap (map one_more) c.as-slice-2.ensures.value) in
-    let phase = put _ _ _ _ (phase_word p.phase ∷ []) c.in-ok-push-2.ensures.items owners (ap (λ k. k ∷ []) c.phase-word.ensures) in
-    let waiting = put _ _ _ _ (length (vec_items p.dislodged) ∷ []) c.in-ok-push-3.ensures.items phase (ap (λ k. k ∷ []) (c.len-2.ensures ∙ p.dislodged.ok.0)) in
-    let dislodged = put _ _ _ _ (in_order out_words (λ d. d.unit.region) (length (vec_items p.atlas.regions)) (vec_items p.dislodged)) c.in-ok-push-in-order-2.ensures waiting (rw (n, c.as-slice-3.ensures.value) refl) in
-    put _ _ _ _ (length (those (length (vec_items p.atlas.regions)) (has p.barred)) ∷ those (length (vec_items p.atlas.regions)) (has p.barred)) c.in-ok-push-regions.ensures dislodged (rw n refl) ∙
+    let count = put _ _ [] _ (length (vec_items p.units) ∷ []) c.in_ok-push.ensures.items c.new-out.ensures.items (ap (λ k. k ∷ []) (c.len.ensures ∙ p.units.ok.0)) in
+    let units = put _ _ _ _ (in_order unit_words (λ u. u.region) (length (vec_items p.atlas.regions)) (vec_items p.units)) c.in_ok-push_in_order.ensures count (rw (n, c.as_slice.ensures.value) refl) in
+    let owners = put _ _ _ _ (map one_more (vec_items p.owners)) c.in_ok-push_owners.ensures units (ap (map one_more) c.as_slice-2.ensures.value) in
+    let phase = put _ _ _ _ (phase_word p.phase ∷ []) c.in_ok-push-2.ensures.items owners (ap (λ k. k ∷ []) c.phase_word.ensures) in
+    let waiting = put _ _ _ _ (length (vec_items p.dislodged) ∷ []) c.in_ok-push-3.ensures.items phase (ap (λ k. k ∷ []) (c.len-2.ensures ∙ p.dislodged.ok.0)) in
+    let dislodged = put _ _ _ _ (in_order out_words (λ d. d.unit.region) (length (vec_items p.atlas.regions)) (vec_items p.dislodged)) c.in_ok-push_in_order-2.ensures waiting (rw (n, c.as_slice-3.ensures.value) refl) in
+    put _ _ _ _ (length (those (length (vec_items p.atlas.regions)) (has p.barred)) ∷ those (length (vec_items p.atlas.regions)) (has p.barred)) c.in_ok-push_regions.ensures dislodged (rw n refl) ∙
     simp append_assoc

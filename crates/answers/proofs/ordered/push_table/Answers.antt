@@ -11,8 +11,8 @@ pub loop-k-preserved : goal.loop-k-preserved
 loop-k-preserved g c =
     let table = c.args.table.now in
     let words = g.X.Worded.words_of in
-    next_region (λ k. words_if words (get_or table k None)) (vec_items c.args.out.now) (vec_items c.loop-k.out) (vec_items c.push-if.new.out) c.loop-k.k c.loop-k.invariant
-    (c.in-ok-push-if.ensures ∙ ap (λ o. vec_items c.loop-k.out ++ words_if words o) (get_or_read table c.loop-k.k c.index-table-k.result (omega arith) c.index-table-k.is None))
+    next_region (λ k. words_if words (get_or table k None)) (vec_items c.args.out.now) (vec_items c.loop-k.out) (vec_items c.push_if.new.out) c.loop-k.k c.loop-k.invariant
+    (c.in_ok-push_if.ensures ∙ ap (λ o. vec_items c.loop-k.out ++ words_if words o) (get_or_read table c.loop-k.k c.index-table-k.result (omega arith) c.index-table-k.is None))
 
 pub returns : goal.returns
 returns g c =

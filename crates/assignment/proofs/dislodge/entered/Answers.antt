@@ -10,14 +10,14 @@ use Rattle.assignment.proofs.dislodge.entered.Goals as goal
 pub loop-cursor-init : goal.loop-cursor-init
 loop-cursor-init c =
     let r = c.args.r in
-    let at = cursor_start r c.last-aimed-cursor.result c.args.xs.now c.last-aimed-cursor.ensures in
-    (at, walk_start (λ x. goes_to r x.order) (λ x rest. or_tri x.value rest) No r (goes_aimed r) c.last-aimed-cursor.result c.args.xs.now c.last-aimed-cursor.ensures, cursor_low at)
+    let at = cursor_start r c.last_aimed-cursor.result c.args.xs.now c.last_aimed-cursor.ensures in
+    (at, walk_start (λ x. goes_to r x.order) (λ x rest. or_tri x.value rest) No r (goes_aimed r) c.last_aimed-cursor.result c.args.xs.now c.last_aimed-cursor.ensures, cursor_low at)
 
-pub aimed-before-cursor-requires : goal.aimed-before-cursor-requires
-aimed-before-cursor-requires c = record { indexed = c.requires.indexed; place = omega arith; aimed = cursor_aimed c.loop-cursor.invariant.0 c.loop-cursor-test.true }
+pub aimed_before-cursor-requires : goal.aimed_before-cursor-requires
+aimed_before-cursor-requires c = record { indexed = c.requires.indexed; place = omega arith; aimed = cursor_aimed c.loop-cursor.invariant.0 c.loop-cursor-test.true }
 
 pub loop-cursor-smaller : goal.loop-cursor-smaller
-loop-cursor-smaller c = let f = cursor_falls c.args.r c.aimed-before-cursor.result (c.loop-cursor.cursor - 1) c.args.xs.now c.aimed-before-cursor.ensures in omega arith
+loop-cursor-smaller c = let f = cursor_falls c.args.r c.aimed_before-cursor.result (c.loop-cursor.cursor - 1) c.args.xs.now c.aimed_before-cursor.ensures in omega arith
 
 pub loop-cursor-preserved : goal.loop-cursor-preserved
 unfolding gather
@@ -25,8 +25,8 @@ loop-cursor-preserved c =
     let r = c.args.r in
     let xs = c.args.xs.now in
     let i = c.loop-cursor.cursor - 1 in
-    let at = cursor_next r c.aimed-before-cursor.result i xs (omega arith) c.aimed-before-cursor.ensures in
+    let at = cursor_next r c.aimed_before-cursor.result i xs (omega arith) c.aimed_before-cursor.ensures in
     let e : c.loop-cursor.cursor ≡ c.loop-cursor.cursor - 1 + 1 = omega arith in
     let old : c.loop-cursor.acc ≡ entered r (drop (i + 1) xs) = c.loop-cursor.invariant.1 ∙ ap (λ n. entered r (drop n xs)) e in
-    let here : c.if-goes-to.acc ≡ entered r (get_or xs i nobody ∷ drop (i + 1) xs) = search rules in
-    (at, walk_next (λ x. goes_to r x.order) (λ x rest. or_tri x.value rest) No r (goes_aimed r) c.aimed-before-cursor.result i xs c.if-goes-to.acc (omega arith) c.aimed-before-cursor.ensures here, cursor_low at)
+    let here : c.if-goes_to.acc ≡ entered r (get_or xs i nobody ∷ drop (i + 1) xs) = search rules in
+    (at, walk_next (λ x. goes_to r x.order) (λ x rest. or_tri x.value rest) No r (goes_aimed r) c.aimed_before-cursor.result i xs c.if-goes_to.acc (omega arith) c.aimed_before-cursor.ensures here, cursor_low at)

@@ -20,12 +20,12 @@ sail_ill s bad =
     and_right (every_entry s.front.regions.count 3 good_region s.front.regions.words.now) (good_board (board_parts s))
     (sail_bad (board_parts s) (edges_bad (board_parts s) true s.front.regions.count s.front.sail.count s.front.sail.words.now (length-entries s.front.regions.count 3 region_in s.front.regions.words.now) bad))
 
-pub returns-in-err-march : goal.returns-in-err-march
-returns-in-err-march c =
-    let p = err_from_is_err_and c.from-residual-in-err-march.result c.from-residual-in-err-march.ensures.1 in
-    rw (p.1, p.2) (handed_on _ (board_good c.args.s.now) Unlawful c.in-err-march.field-0.0 (march_ill c.args.s.now) c.in-err-march.ensures)
+pub returns-in_err-march : goal.returns-in_err-march
+returns-in_err-march c =
+    let p = err_from_is_err_and c.from-residual-in_err-march.result c.from-residual-in_err-march.ensures.1 in
+    rw (p.1, p.2) (handed_on _ (board_good c.args.s.now) Unlawful c.in_err-march.field-0.0 (march_ill c.args.s.now) c.in_err-march.ensures)
 
-pub returns-in-err-sail : goal.returns-in-err-sail
-returns-in-err-sail c =
-    let p = err_from_is_err_and c.from-residual-in-err-sail.result c.from-residual-in-err-sail.ensures.1 in
-    rw (p.1, p.2) (handed_on _ (board_good c.args.s.now) Unlawful c.in-err-sail.field-0.0 (sail_ill c.args.s.now) c.in-err-sail.ensures)
+pub returns-in_err-sail : goal.returns-in_err-sail
+returns-in_err-sail c =
+    let p = err_from_is_err_and c.from-residual-in_err-sail.result c.from-residual-in_err-sail.ensures.1 in
+    rw (p.1, p.2) (handed_on _ (board_good c.args.s.now) Unlawful c.in_err-sail.field-0.0 (sail_ill c.args.s.now) c.in_err-sail.ensures)

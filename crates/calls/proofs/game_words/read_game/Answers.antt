@@ -10,32 +10,32 @@ use Rattle.calls.proofs.Entries.{good_some}
 use Rattle.calls.proofs.Strict.{handed_on}
 use Rattle.calls.proofs.GameParts.{units_ill, dislodged_ill, barred_ill, lawful_ill, game_is, read_well}
 use Rattle.calls.proofs.game_words.read_game.Goals as goal
-use Rattle.calls.proofs.game_words.read_game.Goals.{In-ok-dislodged}
+use Rattle.calls.proofs.game_words.read_game.Goals.{In_ok-dislodged}
 
-pub returns-in-default-read-barred : goal.returns-in-default-read-barred
-returns-in-default-read-barred c = (barred_ill (board_of c.args.atlas) c.args.s.now c.requires.same c.requires.room c.in-default-read-barred.ensures, refl)
+pub returns-in_default-read_barred : goal.returns-in_default-read_barred
+returns-in_default-read_barred c = (barred_ill (board_of c.args.atlas) c.args.s.now c.requires.same c.requires.room c.in_default-read_barred.ensures, refl)
 
-pub returns-in-err-units : goal.returns-in-err-units
-returns-in-err-units c =
+pub returns-in_err-units : goal.returns-in_err-units
+returns-in_err-units c =
     let p = err_from_is_err_and c.from-residual.result c.from-residual.ensures.1 in
-    rw (p.1, p.2) (handed_on _ (game_good (board_of c.args.atlas) c.args.s.now) Unlawful c.in-err-units.field-0.0 (units_ill (board_of c.args.atlas) c.args.s.now c.requires.same) c.in-err-units.ensures)
+    rw (p.1, p.2) (handed_on _ (game_good (board_of c.args.atlas) c.args.s.now) Unlawful c.in_err-units.field-0.0 (units_ill (board_of c.args.atlas) c.args.s.now c.requires.same) c.in_err-units.ensures)
 
-pub returns-in-err-dislodged : goal.returns-in-err-dislodged
-returns-in-err-dislodged c =
-    let p = err_from_is_err_and c.from-residual-in-err-dislodged.result c.from-residual-in-err-dislodged.ensures.1 in
-    rw (p.1, p.2) (handed_on _ (game_good (board_of c.args.atlas) c.args.s.now) Unlawful c.in-err-dislodged.field-0.0 (dislodged_ill (board_of c.args.atlas) c.args.s.now c.requires.same) c.in-err-dislodged.ensures)
+pub returns-in_err-dislodged : goal.returns-in_err-dislodged
+returns-in_err-dislodged c =
+    let p = err_from_is_err_and c.from-residual-in_err-dislodged.result c.from-residual-in_err-dislodged.ensures.1 in
+    rw (p.1, p.2) (handed_on _ (game_good (board_of c.args.atlas) c.args.s.now) Unlawful c.in_err-dislodged.field-0.0 (dislodged_ill (board_of c.args.atlas) c.args.s.now c.requires.same) c.in_err-dislodged.ensures)
 
 -- what was read by now is the game of the parts
-gathered : (c : In-ok-dislodged) →
-    game_on c.args.atlas c.in-Some.phase (vec_items c.in-ok-units.units) (vec_items c.in-ok-dislodged.dislodged) c.in-Some-read-barred.barred (vec_items c.in-ok-owners.owners) ≡ game_parts c.args.s.now
+gathered : (c : In_ok-dislodged) →
+    game_on c.args.atlas c.in-Some.phase (vec_items c.in_ok-units.units) (vec_items c.in_ok-dislodged.dislodged) c.in-Some-read_barred.barred (vec_items c.in_ok-owners.owners) ≡ game_parts c.args.s.now
 gathered c =
-    game_is (board_of c.args.atlas) c.args.s.now c.requires.same c.in-Some.phase (vec_items c.in-ok-units.units) (vec_items c.in-ok-dislodged.dislodged) c.in-Some-read-barred.barred (vec_items c.in-ok-owners.owners)
+    game_is (board_of c.args.atlas) c.args.s.now c.requires.same c.in-Some.phase (vec_items c.in_ok-units.units) (vec_items c.in_ok-dislodged.dislodged) c.in-Some-read_barred.barred (vec_items c.in_ok-owners.owners)
     record {
-      in_phase = (good_some _ _ _ (sym c.phase-of.ensures ∙ c.in-Some.is)).1;
-      units_are = c.in-ok-units.ensures.1;
-      dislodged_are = c.in-ok-dislodged.ensures.1;
-      barred_are = c.in-Some-read-barred.ensures.1;
-      owners_are = c.in-ok-owners.ensures.1;
+      in_phase = (good_some _ _ _ (sym c.phase_of.ensures ∙ c.in-Some.is)).1;
+      units_are = c.in_ok-units.ensures.1;
+      dislodged_are = c.in_ok-dislodged.ensures.1;
+      barred_are = c.in-Some-read_barred.ensures.1;
+      owners_are = c.in_ok-owners.ensures.1;
     }
 
 pub returns-in-Some-new : goal.returns-in-Some-new
@@ -43,13 +43,13 @@ returns-in-Some-new c =
     let m = board_of c.args.atlas in
     let s = c.args.s.now in
     let board = c.in-Some-new.ensures.0 in
-    let game = c.in-Some-new.ensures.1 ∙ gathered (goal.at.returns-in-Some-new c).In-ok-dislodged in
+    let game = c.in-Some-new.ensures.1 ∙ gathered (goal.at.returns-in-Some-new c).In_ok-dislodged in
     let law : lawful m (game_parts s) ≡ true = ap (lawful m) (sym game) ∙ ap (λ b. lawful b (game_of c.in-Some-new.position)) (sym board) ∙ c.in-Some-new.position.legal in (
-      read_well m s c.requires.same c.requires.room (good_some _ _ _ (sym c.phase-of.ensures ∙ c.in-Some.is)).0 c.in-Some-read-barred.ensures.0 c.in-ok-units.ensures.0 c.in-ok-owners.ensures.0 c.in-ok-dislodged.ensures.0 law,
+      read_well m s c.requires.same c.requires.room (good_some _ _ _ (sym c.phase_of.ensures ∙ c.in-Some.is)).0 c.in-Some-read_barred.ensures.0 c.in_ok-units.ensures.0 c.in_ok-owners.ensures.0 c.in_ok-dislodged.ensures.0 law,
       (board, game),
     )
 
 pub returns-in-None : goal.returns-in-None
 returns-in-None c =
-    let game = gathered (goal.at.returns-in-None c).In-ok-dislodged in
+    let game = gathered (goal.at.returns-in-None c).In_ok-dislodged in
     (lawful_ill (board_of c.args.atlas) c.args.s.now c.requires.same (ap (lawful (board_of c.args.atlas)) (sym game) ∙ c.in-None.ensures), refl)

@@ -3,19 +3,19 @@ use Rattle.calls.proofs.Fits.{back_misfit, both_fit, rooms, out_is, out_many, ou
 use Rattle.calls.proofs.sections.cut.Goals as goal
 use Rattle.calls.proofs.sections.cut.Goals.{then-dislodged-gt128-via-then-dislodged-gt128, then-dislodged-gt128-via-else-dislodged-gt128+then-body-dislodged, then-barred-gt128-via-then-barred-gt128, then-barred-gt128-via-else-barred-gt128+then-body-barred}
 
-pub returns-in-default : goal.returns-in-default
-returns-in-default c =
-    let front = c.in-ok-front.ensures in
+pub returns-in_default : goal.returns-in_default
+returns-in_default c =
+    let front = c.in_ok-front.ensures in
     let room = (rooms c.args.words.now front.fit).rest in
     let long = ap length front.rest in
-    let short : length c.in-ok-front.front.rest.now < 2 = search rules in
+    let short : length c.in_ok-front.front.rest.now < 2 = search rules in
     absurd (omega arith)
 
 pub returns-then-dislodged-gt128 : goal.returns-then-dislodged-gt128
 returns-then-dislodged-gt128 c =
     let ws = c.args.words.now in
-    let rest = c.in-ok-front.front.rest.now in
-    let is = c.in-ok-front.ensures.rest in
+    let rest = c.in_ok-front.front.rest.now in
+    let is = c.in_ok-front.ensures.rest in
     back_misfit ws (elim c.then-dislodged-gt128.branch [
       | then-dislodged-gt128-via-then-dislodged-gt128 w ↦ out_many ws rest is w.if-dislodged-gt128.true
       | then-dislodged-gt128-via-else-dislodged-gt128+then-body-dislodged w ↦ out_short ws rest is w.if-body-dislodged.true
@@ -24,8 +24,8 @@ returns-then-dislodged-gt128 c =
 pub returns-then-barred-gt128 : goal.returns-then-barred-gt128
 returns-then-barred-gt128 c =
     let ws = c.args.words.now in
-    let rest = c.in-ok-front.front.rest.now in
-    let is = c.in-ok-front.ensures.rest in
+    let rest = c.in_ok-front.front.rest.now in
+    let is = c.in_ok-front.ensures.rest in
     let tail = c.after.result.now in
     back_misfit ws (elim c.then-barred-gt128.branch [
       | then-barred-gt128-via-then-barred-gt128 w ↦ barred_many ws rest is tail c.after.ensures.words w.if-barred-gt128.true
@@ -35,8 +35,8 @@ returns-then-barred-gt128 c =
 pub returns : goal.returns
 returns c =
     let ws = c.args.words.now in
-    let front = c.in-ok-front.ensures in
-    let rest = c.in-ok-front.front.rest.now in
+    let front = c.in_ok-front.ensures in
+    let rest = c.in_ok-front.front.rest.now in
     let is = front.rest in
     let tail = c.after.result.now in
     record {

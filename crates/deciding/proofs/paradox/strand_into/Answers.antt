@@ -10,7 +10,7 @@ loop-i-preserved c =
     let xs = c.args.xs.now in
     let i = c.loop-i.i in
     let f = strand_one (board_of c.args.atlas.now) xs in (
-      ap (λ l. l ++ map f (drop (i + 1) xs)) c.push-reserved.ensures.items ∙ map_on f nobody (vec_items c.loop-i.out) xs i c.strand-one.result (omega arith) c.strand-one.ensures c.loop-i.invariant.0,
+      ap (λ l. l ++ map f (drop (i + 1) xs)) c.push_reserved.ensures.items ∙ map_on f nobody (vec_items c.loop-i.out) xs i c.strand_one.result (omega arith) c.strand_one.ensures c.loop-i.invariant.0,
       search rules,
       search rules,
     )

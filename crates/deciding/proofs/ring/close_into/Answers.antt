@@ -8,7 +8,7 @@ pub loop-x-preserved : goal.loop-x-preserved
 loop-x-preserved c =
     let xs = c.args.xs.now in
     let i = c.loop-x.x-index in (
-      ap (λ l. l ++ map close_one (drop (i + 1) xs)) c.push-reserved.ensures.items ∙ map_on close_one nobody (vec_items c.loop-x.out) xs i c.close-one.result (omega arith) (search rules) c.loop-x.invariant.0,
+      ap (λ l. l ++ map close_one (drop (i + 1) xs)) c.push_reserved.ensures.items ∙ map_on close_one nobody (vec_items c.loop-x.out) xs i c.close_one.result (omega arith) (search rules) c.loop-x.invariant.0,
       search rules,
       search rules,
     )

@@ -10,5 +10,5 @@ returns c =
     record {
       long = c.requires.long;
       beside = join_has rs c.args.a c.args.b c.insert.new.self (omega (arith, c.args.neighbours.now.ok.0))
-          (λ q. c.insert.ensures q ∙ ap (λ s. eqb q c.args.b || has s q) (c.index-mut.ensures.value ∙ get_or_default rs c.args.a _ empty (omega (arith, c.args.neighbours.now.ok.0))));
+          (λ q. c.insert.ensures q ∙ ap (λ s. eqb q c.args.b || has s q) (c.index_mut.ensures.value ∙ get_or_default rs c.args.a _ empty (omega (arith, c.args.neighbours.now.ok.0))));
     }

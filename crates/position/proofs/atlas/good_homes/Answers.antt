@@ -3,9 +3,9 @@ use Rattle.values.specs.Fold.{all}
 use Rattle.position.proofs.Steps.{steps}
 use Rattle.position.proofs.atlas.good_homes.Goals as goal
 
-pub returns-then-not-is-power : goal.returns-then-not-is-power
+pub returns-then-not-is_power : goal.returns-then-not-is_power
 unfolding all
-returns-then-not-is-power c = search (rules, steps)
+returns-then-not-is_power c = search (rules, steps)
 
 pub loop-region-preserved : goal.loop-region-preserved
 unfolding all

@@ -6,9 +6,9 @@ use Rattle.position.proofs.lawful.good_owners.Goals as goal
 pub returns-then-regions-owners : goal.returns-then-regions-owners
 returns-then-regions-owners c = search (rules, owners_unlike)
 
-pub returns-then-not-good-owner : goal.returns-then-not-good-owner
+pub returns-then-not-good_owner : goal.returns-then-not-good_owner
 unfolding good_owners
-returns-then-not-good-owner c = search (rules, steps)
+returns-then-not-good_owner c = search (rules, steps)
 
 pub loop-i-preserved : goal.loop-i-preserved
 unfolding good_owners

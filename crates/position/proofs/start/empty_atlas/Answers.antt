@@ -11,6 +11,6 @@ new-requires-4 c = no_ends _ c.new-3.ensures.items
 pub invariant-of-result : goal.invariant-of-result
 invariant-of-result c =
     let regions = c.new-5.ensures.items in
-    let march = c.in-ok-march.ensures ∙ c.new.ensures.items in
-    let sail = c.in-ok-sail.ensures ∙ c.new-3.ensures.items in
+    let march = c.in_ok-march.ensures ∙ c.new.ensures.items in
+    let sail = c.in_ok-sail.ensures ∙ c.new-3.ensures.items in
     (rw (regions, march, sail) empty_good, tt)

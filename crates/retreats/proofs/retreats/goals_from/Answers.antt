@@ -7,11 +7,11 @@ use Rattle.retreats.proofs.retreats.goals_from.Goals as goal
 pub loop-d-init : goal.loop-d-init
 loop-d-init c = (search rules, λ g closed. search rules)
 
-pub retreat-of-requires : goal.retreat-of-requires
-retreat-of-requires c = out_power (board_of c.args.atlas.now) c.args.dislodged.now c.loop-d.d-index c.requires (omega arith)
+pub retreat_of-requires : goal.retreat_of-requires
+retreat_of-requires c = out_power (board_of c.args.atlas.now) c.args.dislodged.now c.loop-d.d-index c.requires (omega arith)
 
 pub loop-d-preserved : goal.loop-d-preserved
-loop-d-preserved c = (search rules, λ g closed. let f = c.loop-d.invariant.1 g closed in let o = c.retreat-of.ensures g closed in search (rules, out_more, append_assoc))
+loop-d-preserved c = (search rules, λ g closed. let f = c.loop-d.invariant.1 g closed in let o = c.retreat_of.ensures g closed in search (rules, out_more, append_assoc))
 
 pub returns : goal.returns
 returns c = (search rules, λ g closed. let f = c.loop-d.invariant.1 g closed in search (rules, drop_all, append-nil))

@@ -13,9 +13,9 @@ loop-i-init c = (
   region_start 0 goals_in (vec_items c.args.counts.now) c.args.goals.now (length c.args.goals.now) (λ r. refl) c.requires.blank (omega arith),
 )
 
-pub overflow-add-index-mut : goal.overflow-add-index-mut
-overflow-add-index-mut c =
-    let small = counted_le (vec_items c.loop-i.counts) c.args.goals.now c.loop-i.i c.in-Some.t c.index-mut.result.now c.loop-i.invariant.1 (omega arith) (omega (arith, c.loop-i.counts.ok.0)) c.index-mut.ensures.value in
+pub overflow-add-index_mut : goal.overflow-add-index_mut
+overflow-add-index_mut c =
+    let small = counted_le (vec_items c.loop-i.counts) c.args.goals.now c.loop-i.i c.in-Some.t c.index_mut.result.now c.loop-i.invariant.1 (omega arith) (omega (arith, c.loop-i.counts.ok.0)) c.index_mut.ensures.value in
     search rules
 
 pub loop-i-preserved-in-Some : goal.loop-i-preserved-in-Some
@@ -23,7 +23,7 @@ loop-i-preserved-in-Some c =
     let e : c.loop-i.i ≡ c.loop-i.i - 1 + 1 = omega arith in
     let kept = subst (λ n. Counted (vec_items c.loop-i.counts) (drop n c.args.goals.now)) e c.loop-i.invariant.1 in (
       c.loop-i.invariant.0,
-      counted_more (vec_items c.loop-i.counts) c.args.goals.now (c.loop-i.i - 1) c.in-Some.t c.index-mut.result.now (omega arith) (omega arith) (omega (arith, c.loop-i.counts.ok.0)) c.in-Some.is c.index-mut.ensures.value kept,
+      counted_more (vec_items c.loop-i.counts) c.args.goals.now (c.loop-i.i - 1) c.in-Some.t c.index_mut.result.now (omega arith) (omega arith) (omega (arith, c.loop-i.counts.ok.0)) c.in-Some.is c.index_mut.ensures.value kept,
     )
 
 pub loop-i-preserved : goal.loop-i-preserved

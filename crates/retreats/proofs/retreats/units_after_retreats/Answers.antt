@@ -8,9 +8,9 @@ pub returns : goal.returns
 returns c = λ g like.
     let us = c.args.units.now in
     let ds = c.args.dislodged.now in
-    let goals = vec_items c.in-ok-goals.goals in
-    let out = vec_items c.in-ok-out.out in
-    c.in-ok-land.ensures ∙
-    ap (λ l. out ++ landings l ds l) c.as-slice-3.ensures.value ∙
-    ap (λ l. l ++ landings goals ds goals) c.in-ok-out.ensures.items ∙
-    landed (board_of c.args.atlas.now) g (vec_items c.args.texts.now.list) us ds goals like.units like.dislodged (c.in-ok-goals.ensures.1 g like)
+    let goals = vec_items c.in_ok-goals.goals in
+    let out = vec_items c.in_ok-out.out in
+    c.in_ok-land.ensures ∙
+    ap (λ l. out ++ landings l ds l) c.as_slice-3.ensures.value ∙
+    ap (λ l. l ++ landings goals ds goals) c.in_ok-out.ensures.items ∙
+    landed (board_of c.args.atlas.now) g (vec_items c.args.texts.now.list) us ds goals like.units like.dislodged (c.in_ok-goals.ensures.1 g like)

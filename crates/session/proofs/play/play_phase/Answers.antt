@@ -4,12 +4,12 @@ use Rattle.position.specs.Position.{board_of, game_of}
 use Rattle.session.specs.Tables.{place_names}
 use Rattle.session.proofs.Telling.{with_lines, game_only, stands-next}
 use Rattle.session.proofs.play.play_phase.Goals as goal
-use Rattle.session.proofs.play.play_phase.Goals.{After-push-position, then-tells+in-ok-play-told, else-tells+in-ok-advance+in-Some·, else-tells+in-ok-advance+in-None·}
+use Rattle.session.proofs.play.play_phase.Goals.{After-push_position, then-tells+in_ok-play_told, else-tells+in_ok-advance+in-Some·, else-tells+in_ok-advance+in-None·}
 
-abbrev before : After-push-position → Type 0
+abbrev before : After-push_position → Type 0
 before c = board_of c.if-tells.p ≡ board_of c.args.p.now
 
-abbrev onward : After-push-position → Type 0
+abbrev onward : After-push_position → Type 0
 onward c = game_of c.if-tells.p ≡ turn (board_of c.args.p.now) (game_of c.args.p.now) (vec_items c.args.texts.now.list)
 
 pub returns : goal.returns
@@ -20,34 +20,34 @@ returns c =
     let ws = vec_items c.args.texts.now.list in
     let old = vec_items c.args.out.now in
     let was = vec_items c.if-tells.out in
-    let now = vec_items c.push-position.new.out in
-    let r = c.push-position.result in
+    let now = vec_items c.push_position.new.out in
+    let r = c.push_position.result in
     elim c.if-tells.branch [
-      | then-tells+in-ok-play-told w ↦
-          let after = w.in-ok-play-told.ensures in
+      | then-tells+in_ok-play_told w ↦
+          let after = w.in_ok-play_told.ensures in
           let same : before c = ap board_of w.p-is ∙ after.board in
           let next : onward c = ap game_of w.p-is ∙ after.game in
           record {
             board = same;
-            game = stands-next names m g ws r old was now _ _ same next c.push-position.ensures;
-            bytes = with_lines names m g ws r old was now _ _ same next c.push-position.ensures c.args.tells w.if-tells.true (ap vec_items w.out-is ∙ after.lines);
+            game = stands-next names m g ws r old was now _ _ same next c.push_position.ensures;
+            bytes = with_lines names m g ws r old was now _ _ same next c.push_position.ensures c.args.tells w.if-tells.true (ap vec_items w.out-is ∙ after.lines);
           }
-      | else-tells+in-ok-advance+in-Some· w ↦
-          let after = w.in-ok-advance.ensures in
+      | else-tells+in_ok-advance+in-Some· w ↦
+          let after = w.in_ok-advance.ensures in
           let same : before c = ap board_of w.p-is ∙ after.board in
           let next : onward c = ap game_of w.p-is ∙ after.game in
           record {
             board = same;
-            game = stands-next names m g ws r old was now _ _ same next c.push-position.ensures;
-            bytes = game_only names m g ws r old was now _ _ same next c.push-position.ensures c.args.tells w.if-tells.false (ap vec_items w.out-is);
+            game = stands-next names m g ws r old was now _ _ same next c.push_position.ensures;
+            bytes = game_only names m g ws r old was now _ _ same next c.push_position.ensures c.args.tells w.if-tells.false (ap vec_items w.out-is);
           }
-      | else-tells+in-ok-advance+in-None· w ↦
-          let after = w.in-ok-advance.ensures in
+      | else-tells+in_ok-advance+in-None· w ↦
+          let after = w.in_ok-advance.ensures in
           let same : before c = ap board_of w.p-is ∙ after.board in
           let next : onward c = ap game_of w.p-is ∙ after.game in
           record {
             board = same;
-            game = stands-next names m g ws r old was now _ _ same next c.push-position.ensures;
-            bytes = game_only names m g ws r old was now _ _ same next c.push-position.ensures c.args.tells w.if-tells.false (ap vec_items w.out-is);
+            game = stands-next names m g ws r old was now _ _ same next c.push_position.ensures;
+            bytes = game_only names m g ws r old was now _ _ same next c.push_position.ensures c.args.tells w.if-tells.false (ap vec_items w.out-is);
           }
     ]

@@ -9,18 +9,18 @@ pub returns-then-not-branch : goal.returns-then-not-branch
 returns-then-not-branch c =
     let names = place_names c.args.names.now in
     let p = c.loop-words.p in
-    let told = c.in-ok-play-words.ensures in
+    let told = c.in_ok-play_words.ensures in
     run_stops c.args.tells names (board_of p) (game_of p) c.args.turns.now c.loop-words.words-index (vec_items c.args.out.now ++ run_bytes c.args.tells names (board_of c.args.p.now) (game_of c.args.p.now) (turns_in c.args.turns.now)) (vec_items c.loop-words.out) c.loop-words.invariant
-    _ c.loop-words-test.true (vec_items c.play-words.new.out) told.bytes (sym told.accepted ∙ c.if-not-branch.true)
+    _ c.loop-words-test.true (vec_items c.play_words.new.out) told.bytes (sym told.accepted ∙ c.if-not-branch.true)
 
 pub loop-words-preserved : goal.loop-words-preserved
 loop-words-preserved c =
     let names = place_names c.args.names.now in
     let p = c.loop-words.p in
-    let after = c.play-words.new.p in
-    let told = c.in-ok-play-words.ensures in
+    let after = c.play_words.new.p in
+    let told = c.in_ok-play_words.ensures in
     run_on c.args.tells names (board_of p) (game_of p) c.args.turns.now c.loop-words.words-index (vec_items c.args.out.now ++ run_bytes c.args.tells names (board_of c.args.p.now) (game_of c.args.p.now) (turns_in c.args.turns.now)) (vec_items c.loop-words.out) c.loop-words.invariant
-    _ c.loop-words-test.true (vec_items c.play-words.new.out) told.bytes (board_of after) (game_of after) (sym told.accepted ∙ c.if-not-branch.false) told.board told.game
+    _ c.loop-words-test.true (vec_items c.play_words.new.out) told.bytes (board_of after) (game_of after) (sym told.accepted ∙ c.if-not-branch.false) told.board told.game
 
 pub returns : goal.returns
 returns c =

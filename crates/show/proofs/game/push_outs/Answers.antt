@@ -6,5 +6,5 @@ use Rattle.show.proofs.game.push_outs.Goals as goal
 
 pub returns : goal.returns
 returns g c =
-    let same = lines_by_table (λ d. d.unit.region) (out_line (g.N.Named.named c.args.names.now)) c.as-slice.result.now (vec_items c.in-ok-table.table) c.args.dislodged.now c.args.n (omega arith) c.as-slice.ensures.value c.in-ok-table.ensures.1 in
-    made_same c.push-out-table.result (vec_items c.args.out.now) (vec_items c.push-out-table.new.out) _ _ same c.push-out-table.ensures
+    let same = lines_by_table (λ d. d.unit.region) (out_line (g.N.Named.named c.args.names.now)) c.as_slice.result.now (vec_items c.in_ok-table.table) c.args.dislodged.now c.args.n (omega arith) c.as_slice.ensures.value c.in_ok-table.ensures.1 in
+    made_same c.push_out_table.result (vec_items c.args.out.now) (vec_items c.push_out_table.new.out) _ _ same c.push_out_table.ensures

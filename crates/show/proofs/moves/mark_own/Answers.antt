@@ -10,14 +10,14 @@ unfolding any
 loop-i-init c =
     (c.requires.long, region_start false (wrote_at c.args.table.now) (vec_items c.args.marked.now) c.args.texts.now (length c.args.texts.now) (λ r. refl) c.requires.blank (omega arith))
 
-pub loop-i-preserved-then-is-own : goal.loop-i-preserved-then-is-own
-loop-i-preserved-then-is-own c =
+pub loop-i-preserved-then-is_own : goal.loop-i-preserved-then-is_own
+loop-i-preserved-then-is_own c =
     let e : c.loop-i.i ≡ c.loop-i.i - 1 + 1 = omega arith in
     let old = subst (λ n. Marked (vec_items c.loop-i.marked) c.args.table.now (drop n c.args.texts.now)) e c.loop-i.invariant.1 in
-    (c.loop-i.invariant.0, mark_more (vec_items c.loop-i.marked) c.args.table.now c.args.texts.now (c.loop-i.i - 1) (omega arith) old c.is-own.result (omega (arith, c.loop-i.marked.ok.0)) c.is-own.ensures c.if-is-own.true)
+    (c.loop-i.invariant.0, mark_more (vec_items c.loop-i.marked) c.args.table.now c.args.texts.now (c.loop-i.i - 1) (omega arith) old c.is_own.result (omega (arith, c.loop-i.marked.ok.0)) c.is_own.ensures c.if-is_own.true)
 
 pub loop-i-preserved : goal.loop-i-preserved
 loop-i-preserved c =
     let e : c.loop-i.i ≡ c.loop-i.i - 1 + 1 = omega arith in
     let old = subst (λ n. Marked (vec_items c.loop-i.marked) c.args.table.now (drop n c.args.texts.now)) e c.loop-i.invariant.1 in
-    (c.loop-i.invariant.0, mark_skip (vec_items c.loop-i.marked) c.args.table.now c.args.texts.now (c.loop-i.i - 1) (omega arith) old c.is-own.result c.is-own.ensures c.if-is-own.false)
+    (c.loop-i.invariant.0, mark_skip (vec_items c.loop-i.marked) c.args.table.now c.args.texts.now (c.loop-i.i - 1) (omega arith) old c.is_own.result c.is_own.ensures c.if-is_own.false)

@@ -6,5 +6,5 @@ use Rattle.show.proofs.retreats.push_goal.Goals as goal
 pub returns-in-None : goal.returns-in-None
 returns-in-None g c = made_same c.push.result (vec_items c.args.out.now) (vec_items c.push.new.out) _ _ (ap (retreat_words (g.N.Named.named c.args.names.now) c.args.arrives) (sym c.in-None.is)) c.push.ensures
 
-pub returns-in-ok-push-word-2 : goal.returns-in-ok-push-word-2
-returns-in-ok-push-word-2 g c = search (rules, joins)
+pub returns-in_ok-push_word-2 : goal.returns-in_ok-push_word-2
+returns-in_ok-push_word-2 g c = search (rules, joins)

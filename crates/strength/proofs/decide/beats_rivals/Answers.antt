@@ -16,14 +16,14 @@ loop-cursor-init c =
     let r = c.aim-r.result in
     let x = c.args.x in
     let xs = c.args.xs.now in
-    let at = cursor_start r c.last-aimed-cursor.result xs c.last-aimed-cursor.ensures in
-    (at, walk_start (rival x) (λ y rest. and_tri (greater c.args.a (prevent (board_of c.args.atlas.now) y xs)) rest) Yes r (rival_aimed r x c.aim-r.ensures) c.last-aimed-cursor.result xs c.last-aimed-cursor.ensures, cursor_low at)
+    let at = cursor_start r c.last_aimed-cursor.result xs c.last_aimed-cursor.ensures in
+    (at, walk_start (rival x) (λ y rest. and_tri (greater c.args.a (prevent (board_of c.args.atlas.now) y xs)) rest) Yes r (rival_aimed r x c.aim-r.ensures) c.last_aimed-cursor.result xs c.last_aimed-cursor.ensures, cursor_low at)
 
-pub aimed-before-cursor-requires : goal.aimed-before-cursor-requires
-aimed-before-cursor-requires c = record { indexed = c.requires.indexed; place = omega arith; aimed = cursor_aimed c.loop-cursor.invariant.0 c.loop-cursor-test.true }
+pub aimed_before-cursor-requires : goal.aimed_before-cursor-requires
+aimed_before-cursor-requires c = record { indexed = c.requires.indexed; place = omega arith; aimed = cursor_aimed c.loop-cursor.invariant.0 c.loop-cursor-test.true }
 
 pub loop-cursor-smaller : goal.loop-cursor-smaller
-loop-cursor-smaller c = let f = cursor_falls c.aim-r.result c.aimed-before-cursor.result (c.loop-cursor.cursor - 1) c.args.xs.now c.aimed-before-cursor.ensures in omega arith
+loop-cursor-smaller c = let f = cursor_falls c.aim-r.result c.aimed_before-cursor.result (c.loop-cursor.cursor - 1) c.args.xs.now c.aimed_before-cursor.ensures in omega arith
 
 pub loop-cursor-preserved : goal.loop-cursor-preserved
 unfolding gather
@@ -33,11 +33,11 @@ loop-cursor-preserved c =
     let x = c.args.x in
     let xs = c.args.xs.now in
     let i = c.loop-cursor.cursor - 1 in
-    let at = cursor_next r c.aimed-before-cursor.result i xs (omega arith) c.aimed-before-cursor.ensures in
+    let at = cursor_next r c.aimed_before-cursor.result i xs (omega arith) c.aimed_before-cursor.ensures in
     let e : c.loop-cursor.cursor ≡ c.loop-cursor.cursor - 1 + 1 = omega arith in
     let old : c.loop-cursor.acc ≡ beats_rivals m c.args.a x xs (drop (i + 1) xs) = c.loop-cursor.invariant.1 ∙ ap (λ n. beats_rivals m c.args.a x xs (drop n xs)) e in
     let here : c.if-rival.acc ≡ beats_rivals m c.args.a x xs (get_or xs i nobody ∷ drop (i + 1) xs) = search rules in
-    (at, walk_next (rival x) (λ y rest. and_tri (greater c.args.a (prevent m y xs)) rest) Yes r (rival_aimed r x c.aim-r.ensures) c.aimed-before-cursor.result i xs c.if-rival.acc (omega arith) c.aimed-before-cursor.ensures here, cursor_low at)
+    (at, walk_next (rival x) (λ y rest. and_tri (greater c.args.a (prevent m y xs)) rest) Yes r (rival_aimed r x c.aim-r.ensures) c.aimed_before-cursor.result i xs c.if-rival.acc (omega arith) c.aimed_before-cursor.ensures here, cursor_low at)
 
 pub returns : goal.returns
 returns c =

@@ -14,8 +14,8 @@ loop-cursor-init g c =
     let r = c.target-r.result in
     let s = c.args.sought.now in
     let aimed : (x : Resolution) → g.S.Sought.test s x ≡ true → aimed_at r x ≡ true = λ x e. subst (λ q. aimed_at q x ≡ true) (sym c.target-r.ensures) (g.met.S.Sought.aimed s x e) in
-    let at = cursor_start r c.last-aimed-cursor.result c.args.xs.now c.last-aimed-cursor.ensures in
-    (at, walk_start (g.S.Sought.test s) (λ y rest. sum (counted y.value) rest) (exactly 0) r aimed c.last-aimed-cursor.result c.args.xs.now c.last-aimed-cursor.ensures, omega arith, let low = cursor_low at in omega arith)
+    let at = cursor_start r c.last_aimed-cursor.result c.args.xs.now c.last_aimed-cursor.ensures in
+    (at, walk_start (g.S.Sought.test s) (λ y rest. sum (counted y.value) rest) (exactly 0) r aimed c.last_aimed-cursor.result c.args.xs.now c.last_aimed-cursor.ensures, omega arith, let low = cursor_low at in omega arith)
 
 pub offset-bounds-xs-i : goal.offset-bounds-xs-i
 offset-bounds-xs-i g c = search rules
@@ -26,11 +26,11 @@ bounds-xs-i g c = search rules
 pub sum-acc-requires : goal.sum-acc-requires
 sum-acc-requires g c = search (rules, counted_small)
 
-pub aimed-before-cursor-requires : goal.aimed-before-cursor-requires
-aimed-before-cursor-requires g c = record { indexed = c.requires.indexed; place = omega arith; aimed = cursor_aimed c.loop-cursor.invariant.0 c.loop-cursor-test.true }
+pub aimed_before-cursor-requires : goal.aimed_before-cursor-requires
+aimed_before-cursor-requires g c = record { indexed = c.requires.indexed; place = omega arith; aimed = cursor_aimed c.loop-cursor.invariant.0 c.loop-cursor-test.true }
 
 pub loop-cursor-smaller : goal.loop-cursor-smaller
-loop-cursor-smaller g c = let f = cursor_falls c.target-r.result c.aimed-before-cursor.result (c.loop-cursor.cursor - 1) c.args.xs.now c.aimed-before-cursor.ensures in omega arith
+loop-cursor-smaller g c = let f = cursor_falls c.target-r.result c.aimed_before-cursor.result (c.loop-cursor.cursor - 1) c.args.xs.now c.aimed_before-cursor.ensures in omega arith
 
 pub loop-cursor-preserved : goal.loop-cursor-preserved
 unfolding gather
@@ -40,13 +40,13 @@ loop-cursor-preserved g c =
     let xs = c.args.xs.now in
     let i = c.loop-cursor.cursor - 1 in
     let aimed : (x : Resolution) → g.S.Sought.test s x ≡ true → aimed_at r x ≡ true = λ x e. subst (λ q. aimed_at q x ≡ true) (sym c.target-r.ensures) (g.met.S.Sought.aimed s x e) in
-    let at = cursor_next r c.aimed-before-cursor.result i xs (omega arith) c.aimed-before-cursor.ensures in
-    let falls = cursor_falls r c.aimed-before-cursor.result i xs c.aimed-before-cursor.ensures in
+    let at = cursor_next r c.aimed_before-cursor.result i xs (omega arith) c.aimed_before-cursor.ensures in
+    let falls = cursor_falls r c.aimed_before-cursor.result i xs c.aimed_before-cursor.ensures in
     let e : c.loop-cursor.cursor ≡ c.loop-cursor.cursor - 1 + 1 = omega arith in
     let old : c.loop-cursor.acc ≡ support (g.S.Sought.test s) (drop (i + 1) xs) = c.loop-cursor.invariant.1 ∙ ap (λ n. support (g.S.Sought.test s) (drop n xs)) e in
     let here : c.if-counts.acc ≡ support (g.S.Sought.test s) (get_or xs i nobody ∷ drop (i + 1) xs) = search rules in
     let small : (c.if-counts.acc.least ≤ c.if-counts.acc.greatest) × (c.if-counts.acc.greatest + i ≤ length xs) = search (rules, counted_small) in
-    (at, walk_next (g.S.Sought.test s) (λ y rest. sum (counted y.value) rest) (exactly 0) r aimed c.aimed-before-cursor.result i xs c.if-counts.acc (omega arith) c.aimed-before-cursor.ensures here, small.0, omega arith)
+    (at, walk_next (g.S.Sought.test s) (λ y rest. sum (counted y.value) rest) (exactly 0) r aimed c.aimed_before-cursor.result i xs c.if-counts.acc (omega arith) c.aimed_before-cursor.ensures here, small.0, omega arith)
 
 pub sum-requires : goal.sum-requires
 sum-requires g c = search rules

@@ -9,16 +9,16 @@ pub loop-line-preserved : goal.loop-line-preserved
 loop-line-preserved c =
     let told = c.in-Some.ensures in
     let names = names_of c.args.names.now in
-    rw told.numbers.1 (read_on (game_step names) c.loop-line.lines.number (game_entries c.loop-line.game) c.loop-line.lines.rest.now (game_file names c.args.text.now) c.loop-line.invariant c.in-Some.line.bytes.now c.take.new.self.rest.now told.lines (game_entries c.read.new.self) c.in-ok-read.ensures)
+    rw told.numbers.1 (read_on (game_step names) c.loop-line.lines.number (game_entries c.loop-line.game) c.loop-line.lines.rest.now (game_file names c.args.text.now) c.loop-line.invariant c.in-Some.line.bytes.now c.take.new.self.rest.now told.lines (game_entries c.read.new.self) c.in_ok-read.ensures)
 
-pub returns-in-err-read : goal.returns-in-err-read
-returns-in-err-read c =
+pub returns-in_err-read : goal.returns-in_err-read
+returns-in_err-read c =
     let told = c.in-Some.ensures in
     let names = names_of c.args.names.now in
-    let p = err_from_is_err_and c.from-residual-in-err-read.result c.from-residual-in-err-read.ensures.1 in
-    rw (p.1, p.2) (read_fault (game_step names) c.loop-line.lines.number (game_entries c.loop-line.game) c.loop-line.lines.rest.now (game_file names c.args.text.now) c.loop-line.invariant c.in-Some.line.bytes.now c.take.new.self.rest.now told.lines game_entries (game_entries c.read.new.self) c.in-Some.line.number c.in-err-read.field-0.0 told.numbers.0 c.in-err-read.ensures)
+    let p = err_from_is_err_and c.from-residual-in_err-read.result c.from-residual-in_err-read.ensures.1 in
+    rw (p.1, p.2) (read_fault (game_step names) c.loop-line.lines.number (game_entries c.loop-line.game) c.loop-line.lines.rest.now (game_file names c.args.text.now) c.loop-line.invariant c.in-Some.line.bytes.now c.take.new.self.rest.now told.lines game_entries (game_entries c.read.new.self) c.in-Some.line.number c.in_err-read.field-0.0 told.numbers.0 c.in_err-read.ensures)
 
 pub returns : goal.returns
 returns c =
     let names = names_of c.args.names.now in
-    read_end (game_step names) c.loop-line.lines.number (game_entries c.loop-line.game) c.loop-line.lines.rest.now (game_file names c.args.text.now) c.loop-line.invariant c.in-default.ensures.lines
+    read_end (game_step names) c.loop-line.lines.number (game_entries c.loop-line.game) c.loop-line.lines.rest.now (game_file names c.args.text.now) c.loop-line.invariant c.in_default.ensures.lines

@@ -6,9 +6,9 @@ pub returns-in-empty : goal.returns-in-empty
 unfolding opening
 returns-in-empty c = search rules
 
-pub returns-in-ok-push-block : goal.returns-in-ok-push-block
+pub returns-in_ok-push_block : goal.returns-in_ok-push_block
 unfolding opening
-returns-in-ok-push-block c = search rules
+returns-in_ok-push_block c = search rules
 
 pub returns-in-Phase : goal.returns-in-Phase
 unfolding opening

@@ -3,9 +3,9 @@ use Rattle.values.specs.Fold.{all}
 use Rattle.text.proofs.Steps.{steps}
 use Rattle.text.proofs.words.letters.Goals as goal
 
-pub returns-then-not-is-letter : goal.returns-then-not-is-letter
+pub returns-then-not-is_letter : goal.returns-then-not-is_letter
 unfolding all
-returns-then-not-is-letter c = search (rules, steps)
+returns-then-not-is_letter c = search (rules, steps)
 
 pub loop-b-preserved : goal.loop-b-preserved
 unfolding all

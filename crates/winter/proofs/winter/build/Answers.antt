@@ -7,5 +7,5 @@ use Rattle.winter.proofs.winter.build.Goals as goal
 pub returns : goal.returns
 returns c =
     let us = c.args.units.now in
-    c.in-ok-build-into.ensures us (taken_from c.with-units-taken.result us c.with-units-taken.ensures) ∙
-    ap (λ l. l ++ take c.args.k (build_order (board_of c.args.atlas.now) c.args.p c.args.owners.now (vec_items c.args.texts.now.list) us)) c.in-ok-out.ensures.items
+    c.in_ok-build_into.ensures us (taken_from c.with_units-taken.result us c.with_units-taken.ensures) ∙
+    ap (λ l. l ++ take c.args.k (build_order (board_of c.args.atlas.now) c.args.p c.args.owners.now (vec_items c.args.texts.now.list) us)) c.in_ok-out.ensures.items

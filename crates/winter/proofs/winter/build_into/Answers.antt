@@ -12,17 +12,17 @@ pub loop-i-preserved : goal.loop-i-preserved
 loop-i-preserved c = λ us taken.
     let m = board_of c.args.atlas.now in
     let i = c.loop-i.i in
-    let wanted = c.build-in-wanted.ensures ∙ ap build_in c.text-for.ensures in
-    let one = ap (may_build m c.args.p c.args.owners.now us i) (sym wanted) ∙ sym (c.may-build.ensures us taken) ∙ ap option_to_list c.in-Some.is in
-    gather_one _ _ _ _ i c.loop-i.left (vec_items c.loop-i.out) (vec_items c.push.new.self) c.in-Some.u (search rules) (search rules) one c.in-ok-push.ensures.items (c.loop-i.invariant us taken)
+    let wanted = c.build_in-wanted.ensures ∙ ap build_in c.text_for.ensures in
+    let one = ap (may_build m c.args.p c.args.owners.now us i) (sym wanted) ∙ sym (c.may_build.ensures us taken) ∙ ap option_to_list c.in-Some.is in
+    gather_one _ _ _ _ i c.loop-i.left (vec_items c.loop-i.out) (vec_items c.push.new.self) c.in-Some.u (search rules) (search rules) one c.in_ok-push.ensures.items (c.loop-i.invariant us taken)
 
-pub loop-i-preserved-in-default : goal.loop-i-preserved-in-default
-loop-i-preserved-in-default c = λ us taken.
+pub loop-i-preserved-in_default : goal.loop-i-preserved-in_default
+loop-i-preserved-in_default c = λ us taken.
     let m = board_of c.args.atlas.now in
     let i = c.loop-i.i in
-    let wanted = c.build-in-wanted.ensures ∙ ap build_in c.text-for.ensures in
-    let none : c.may-build.result ≡ None = search rules in
-    let nothing = ap (may_build m c.args.p c.args.owners.now us i) (sym wanted) ∙ sym (c.may-build.ensures us taken) ∙ ap option_to_list none in
+    let wanted = c.build_in-wanted.ensures ∙ ap build_in c.text_for.ensures in
+    let none : c.may_build.result ≡ None = search rules in
+    let nothing = ap (may_build m c.args.p c.args.owners.now us i) (sym wanted) ∙ sym (c.may_build.ensures us taken) ∙ ap option_to_list none in
     gather_skip _ _ _ _ i c.loop-i.left (vec_items c.loop-i.out) (search rules) nothing (c.loop-i.invariant us taken)
 
 pub returns-after-loop-i : goal.returns-after-loop-i

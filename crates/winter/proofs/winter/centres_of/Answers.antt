@@ -8,9 +8,9 @@ pub loop-i-init : goal.loop-i-init
 unfolding gather
 loop-i-init c = search (rules, drop_all)
 
-pub loop-i-preserved-then-is-just : goal.loop-i-preserved-then-is-just
+pub loop-i-preserved-then-is_just : goal.loop-i-preserved-then-is_just
 unfolding gather
-loop-i-preserved-then-is-just c = search (rules, goal_more)
+loop-i-preserved-then-is_just c = search (rules, goal_more)
 
 pub loop-i-preserved : goal.loop-i-preserved
 unfolding gather

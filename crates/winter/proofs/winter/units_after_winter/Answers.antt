@@ -9,7 +9,7 @@ use Rattle.winter.proofs.winter.units_after_winter.Goals as goal
 pub loop-p-init : goal.loop-p-init
 loop-p-init c =
     let m = board_of c.args.atlas.now in
-    let copied = c.in-ok-standing.ensures.items in
+    let copied = c.in_ok-standing.ensures.items in
     (copied ∙ winters_none m c.args.owners.now (vec_items c.args.texts.now.list) c.args.units.now, subst (λ us. all (stands m) us ≡ true) (sym copied) c.requires)
 
 pub loop-p-preserved : goal.loop-p-preserved
@@ -19,7 +19,7 @@ loop-p-preserved c =
     let owners = c.args.owners.now in
     let p = c.loop-p.p in
     let us = vec_items c.loop-p.standing in
-    let is = c.in-ok-standing-2.ensures ∙ ap (winter_of m owners ws p) c.as-slice.ensures.value in (
+    let is = c.in_ok-standing-2.ensures ∙ ap (winter_of m owners ws p) c.as_slice.ensures.value in (
       is ∙ ap (winter_of m owners ws p) c.loop-p.invariant.0 ∙ sym (winters_more m owners ws p c.args.units.now),
       subst (λ l. all (stands m) l ≡ true) (sym is) (winter_stands m owners ws p us c.loop-p-test.true c.loop-p.invariant.1),
     )

@@ -6,4 +6,4 @@ use Rattle.adjudicator.proofs.referee.Adjudicator.new.Goals as goal
 pub returns : goal.returns
 unfolding gather count_up
 returns c =
-    record { board = c.in-ok-position.ensures.0; game = c.in-ok-position.ensures.1; last = search rules; stands = stands c.in-ok-position.position }
+    record { board = c.in_ok-position.ensures.0; game = c.in_ok-position.ensures.1; last = search rules; stands = stands c.in_ok-position.position }

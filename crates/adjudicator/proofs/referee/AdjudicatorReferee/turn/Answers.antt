@@ -10,7 +10,7 @@ use Rattle.calls.specs.Turn.{turn_verdict, texts_verdict, texts_in, turn_game, t
 use Rattle.adjudicator.specs.Told.{told, told_in}
 use Rattle.adjudicator.proofs.Onward.{told_new, told_old}
 use Rattle.adjudicator.proofs.referee.AdjudicatorReferee.turn.Goals as goal
-use Rattle.adjudicator.proofs.referee.AdjudicatorReferee.turn.Goals.{in-Some, in-default}
+use Rattle.adjudicator.proofs.referee.AdjudicatorReferee.turn.Goals.{in-Some, in_default}
 
 pub returns-after-branch-3 : goal.returns-after-branch-3
 returns-after-branch-3 c =
@@ -20,8 +20,8 @@ returns-after-branch-3 c =
     let g = game_of old.position in
     let regions : c.len-regions.result ≡ length (vec_items old.position.atlas.regions) = omega (arith, old.position.atlas.regions.ok.0) in
     let accepted : turn_verdict m words ≡ Accepted = ap (λ n. texts_verdict n words) (sym regions) ∙ c.in-Ok.ensures.0 in
-    let written : vec_items c.in-ok-texts.texts.list ≡ texts_in words = c.in-ok-texts.ensures ∙ c.in-Ok.ensures.1 in
-    let after = c.in-ok-reports.ensures in
+    let written : vec_items c.in_ok-texts.texts.list ≡ texts_in words = c.in_ok-texts.ensures ∙ c.in-Ok.ensures.1 in
+    let after = c.in_ok-reports.ensures in
     let game_is = after.game ∙ ap (turn m g) written ∙ sym (ap (λ v. cond (is_accepted v) (turn m g (texts_in words)) g) accepted) in
     let told_is = after.told ∙ ap (told_in m g) written in
     let last-is = sym (ap (λ v. cond (is_accepted v && is_moves g.phase) (reports m (ordered g.units (texts_in words))) (vec_items old.last)) accepted) in
@@ -33,11 +33,11 @@ returns-after-branch-3 c =
             game = ap (λ s. game_of s.position) w.self-is ∙ game_is;
             last = ap (λ s. vec_items s.last) w.self-is ∙ told_new (is_moves g.phase) _ _ (vec_items old.last) (ap told (sym w.in-Some.is) ∙ told_is) ∙ last-is;
           }
-      | in-default w ↦
+      | in_default w ↦
           record {
             verdict = sym accepted;
             board = ap (λ s. board_of s.position) w.self-is ∙ after.board;
             game = ap (λ s. game_of s.position) w.self-is ∙ game_is;
-            last = ap (λ s. vec_items s.last) w.self-is ∙ told_old (is_moves g.phase) _ (vec_items old.last) (ap told (sym w.in-default.is) ∙ told_is) ∙ last-is;
+            last = ap (λ s. vec_items s.last) w.self-is ∙ told_old (is_moves g.phase) _ (vec_items old.last) (ap told (sym w.in_default.is) ∙ told_is) ∙ last-is;
           }
     ]

@@ -4,8 +4,8 @@ use Rattle.lines.proofs.FirstLine.{next_line, no_line}
 use Rattle.lines.proofs.split.Lines.take_line.Goals as goal
 use Rattle.lines.proofs.split.Lines.take_line.Goals.{then-n-rest, else-n-rest}
 
-pub returns-then-is-empty : goal.returns-then-is-empty
-returns-then-is-empty c = record { shorter = tt; lines = search (rules, no_line) }
+pub returns-then-is_empty : goal.returns-then-is_empty
+returns-then-is_empty c = record { shorter = tt; lines = search (rules, no_line) }
 
 pub returns : goal.returns
 returns c =
@@ -14,6 +14,6 @@ returns c =
     let part = take_rest bs c.if-n-rest.next in
     let long = length-drop c.if-n-rest.next bs in
     elim c.if-n-rest.branch [
-      | then-n-rest w ↦ record { shorter = rw part (omega (arith, w.next-is, long)); lines = next_line bs _ _ some c.line-length-n.ensures.value (inl (w.if-n-rest.true, w.next-is)) }
-      | else-n-rest w ↦ record { shorter = rw part (omega (arith, w.next-is, long)); lines = next_line bs _ _ some c.line-length-n.ensures.value (inr (w.if-n-rest.false, w.next-is)) }
+      | then-n-rest w ↦ record { shorter = rw part (omega (arith, w.next-is, long)); lines = next_line bs _ _ some c.line_length-n.ensures.value (inl (w.if-n-rest.true, w.next-is)) }
+      | else-n-rest w ↦ record { shorter = rw part (omega (arith, w.next-is, long)); lines = next_line bs _ _ some c.line_length-n.ensures.value (inr (w.if-n-rest.false, w.next-is)) }
     ]

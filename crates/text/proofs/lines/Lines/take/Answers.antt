@@ -4,8 +4,8 @@ use Rattle.text.proofs.Steps.{next_line, no_line}
 use Rattle.text.proofs.lines.Lines.take.Goals as goal
 use Rattle.text.proofs.lines.Lines.take.Goals.{then-n-rest, else-n-rest}
 
-pub returns-then-is-empty : goal.returns-then-is-empty
-returns-then-is-empty c = record { shorter = tt; lines = search (rules, no_line); numbers = tt }
+pub returns-then-is_empty : goal.returns-then-is_empty
+returns-then-is_empty c = record { shorter = tt; lines = search (rules, no_line); numbers = tt }
 
 pub returns : goal.returns
 returns c =
@@ -14,6 +14,6 @@ returns c =
     let part = take_rest bs c.if-n-rest.next in
     let long = length-drop c.if-n-rest.next bs in
     elim c.if-n-rest.branch [
-      | then-n-rest w ↦ record { shorter = rw part (omega (arith, w.next-is, long)); lines = next_line bs _ _ some c.part-length-n.ensures.0 (inl (w.if-n-rest.true, w.next-is)); numbers = search rules }
-      | else-n-rest w ↦ record { shorter = rw part (omega (arith, w.next-is, long)); lines = next_line bs _ _ some c.part-length-n.ensures.0 (inr (w.if-n-rest.false, w.next-is)); numbers = search rules }
+      | then-n-rest w ↦ record { shorter = rw part (omega (arith, w.next-is, long)); lines = next_line bs _ _ some c.part_length-n.ensures.0 (inl (w.if-n-rest.true, w.next-is)); numbers = search rules }
+      | else-n-rest w ↦ record { shorter = rw part (omega (arith, w.next-is, long)); lines = next_line bs _ _ some c.part_length-n.ensures.0 (inr (w.if-n-rest.false, w.next-is)); numbers = search rules }
     ]
