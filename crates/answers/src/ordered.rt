@@ -7,7 +7,7 @@ use super::worded::Worded;
 use std::alloc::{AllocError, Global};
 
 fn push_if<X: Worded>(out: &mut Vec<usize>, o: Option<X>) -> Result<(), AllocError>
-    ensures { OnOk result (out.new.items ≡ out.old.items ++ words_if words_of o) }
+    ensures { OnOk result (out.new.items ≡ out.old.items ++ words_if X.words_of o) }
 {
     match o {
         None => Ok(()),
@@ -21,7 +21,7 @@ fn push_table<X: Worded>(
     table: &[Option<X>],
 ) -> Result<(), AllocError>
     requires { n ≤ length table.now }
-    ensures { OnOk result (out.new.items ≡ out.old.items ++ by_region n (λ k. words_if words_of (slice_index_or table.now k None))) }
+    ensures { OnOk result (out.new.items ≡ out.old.items ++ by_region n (λ k. words_if X.words_of (slice_index_or table.now k None))) }
 {
     for k in 0..n {
         push_if(out, table[k])?;
@@ -36,7 +36,7 @@ pub fn push_in_order<X: Worded>(
     xs: &[X],
 ) -> Result<(), AllocError>
     requires { n ≤ 256 }
-    ensures { OnOk result (out.new.items ≡ out.old.items ++ in_order words_of place_of n xs.now) }
+    ensures { OnOk result (out.new.items ≡ out.old.items ++ in_order X.words_of X.place_of n xs.now) }
 {
     let table = by_region(heap, xs)?;
     push_table(out, n, table.as_slice())?;

@@ -34,8 +34,8 @@ pub fn read_entries<R: Reader>(
     words: &[u32],
     refusal: Verdict,
 ) -> Result<Vec<R::Entry>, Fault>
-    requires { count * width reader.now ≤ length words.now }
-    ensures { ReadOr (every_entry count (width reader.now) (good reader.now) words.now) (λ v. v.items ≡ entries count (width reader.now) (meant reader.now) words.now) refusal result }
+    requires { count * R.width reader.now ≤ length words.now }
+    ensures { ReadOr (every_entry count (R.width reader.now) (R.good reader.now) words.now) (λ v. v.items ≡ entries count (R.width reader.now) (R.meant reader.now) words.now) refusal result }
 {
     let mut out = Vec::new(heap);
     let mut rest = words;

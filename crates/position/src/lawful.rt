@@ -22,7 +22,7 @@ fn stands(atlas: &Atlas, u: Unit) -> bool
 
 // No two in one region, and each where its kind can be.
 pub fn well_placed<P: Standing>(atlas: &Atlas, pieces: &[P]) -> bool
-    ensures { result ≡ (distinct (places (map piece pieces.now)) && all (stands (board_of atlas.now)) (map piece pieces.now)) }
+    ensures { result ≡ (distinct (places (map P.piece pieces.now)) && all (stands (board_of atlas.now)) (map P.piece pieces.now)) }
 {
     let mut taken = RegionSet::EMPTY;
     for i in (0..pieces.len()).rev() {

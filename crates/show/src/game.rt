@@ -43,7 +43,7 @@ fn push_kind(out: &mut Vec<u8>, word: &[u8], u: Unit) -> Result<(), AllocError>
 }
 
 fn push_unit<N: Named>(out: &mut Vec<u8>, names: &N, u: Option<Unit>) -> Result<(), AllocError>
-    ensures { OnOk result (out.new.items ≡ out.old.items ++ unit_line (named names.now) u) }
+    ensures { OnOk result (out.new.items ≡ out.old.items ++ unit_line (N.named names.now) u) }
 {
     let Some(u) = u else {
         return Ok(());
@@ -59,7 +59,7 @@ fn push_from<N: Named>(
     r: u8,
     from: Option<u8>,
 ) -> Result<(), AllocError>
-    ensures { OnOk result (out.new.items ≡ out.old.items ++ from_words (named names.now) (name (named names.now) r) from) }
+    ensures { OnOk result (out.new.items ≡ out.old.items ++ from_words (N.named names.now) (name (N.named names.now) r) from) }
 {
     let Some(f) = from else {
         return push(out, names.name(r));
@@ -69,7 +69,7 @@ fn push_from<N: Named>(
 }
 
 fn push_out<N: Named>(out: &mut Vec<u8>, names: &N, d: Option<Dislodged>) -> Result<(), AllocError>
-    ensures { OnOk result (out.new.items ≡ out.old.items ++ out_line (named names.now) d) }
+    ensures { OnOk result (out.new.items ≡ out.old.items ++ out_line (N.named names.now) d) }
 {
     let Some(d) = d else {
         return Ok(());
@@ -85,7 +85,7 @@ fn push_barred<N: Named>(
     r: u8,
     barred: bool,
 ) -> Result<(), AllocError>
-    ensures { OnOk result (out.new.items ≡ out.old.items ++ barred_line (named names.now) r barred) }
+    ensures { OnOk result (out.new.items ≡ out.old.items ++ barred_line (N.named names.now) r barred) }
 {
     if !barred {
         return Ok(());
@@ -100,7 +100,7 @@ fn push_owner<N: Named>(
     r: u8,
     owner: Option<u8>,
 ) -> Result<(), AllocError>
-    ensures { OnOk result (out.new.items ≡ out.old.items ++ owner_line (named names.now) r owner) }
+    ensures { OnOk result (out.new.items ≡ out.old.items ++ owner_line (N.named names.now) r owner) }
 {
     let Some(p) = owner else {
         return Ok(());
@@ -117,7 +117,7 @@ fn push_unit_table<N: Named>(
     table: &[Option<Unit>],
 ) -> Result<(), AllocError>
     requires { length table.now ≡ 256 }
-    ensures { OnOk result (out.new.items ≡ out.old.items ++ by_region n (λ r. unit_line (named names.now) (slice_index_or table.now r None))) }
+    ensures { OnOk result (out.new.items ≡ out.old.items ++ by_region n (λ r. unit_line (N.named names.now) (slice_index_or table.now r None))) }
 {
     for r in 0..n {
         push_unit(out, names, table[r as usize])?;
@@ -132,7 +132,7 @@ fn push_units<N: Named>(
     n: u8,
     units: &[Unit],
 ) -> Result<(), AllocError>
-    ensures { OnOk result (out.new.items ≡ out.old.items ++ unit_lines (named names.now) n units.now) }
+    ensures { OnOk result (out.new.items ≡ out.old.items ++ unit_lines (N.named names.now) n units.now) }
 {
     let table = by_region(heap, units)?;
     push_unit_table(out, names, n, table.as_slice())
@@ -145,7 +145,7 @@ fn push_out_table<N: Named>(
     table: &[Option<Dislodged>],
 ) -> Result<(), AllocError>
     requires { length table.now ≡ 256 }
-    ensures { OnOk result (out.new.items ≡ out.old.items ++ by_region n (λ r. out_line (named names.now) (slice_index_or table.now r None))) }
+    ensures { OnOk result (out.new.items ≡ out.old.items ++ by_region n (λ r. out_line (N.named names.now) (slice_index_or table.now r None))) }
 {
     for r in 0..n {
         push_out(out, names, table[r as usize])?;
@@ -160,7 +160,7 @@ fn push_outs<N: Named>(
     n: u8,
     dislodged: &[Dislodged],
 ) -> Result<(), AllocError>
-    ensures { OnOk result (out.new.items ≡ out.old.items ++ out_lines (named names.now) n dislodged.now) }
+    ensures { OnOk result (out.new.items ≡ out.old.items ++ out_lines (N.named names.now) n dislodged.now) }
 {
     let table = by_region(heap, dislodged)?;
     push_out_table(out, names, n, table.as_slice())
@@ -172,7 +172,7 @@ fn push_barred_set<N: Named>(
     n: u8,
     barred: RegionSet,
 ) -> Result<(), AllocError>
-    ensures { OnOk result (out.new.items ≡ out.old.items ++ barred_lines (named names.now) n (those n (has barred))) }
+    ensures { OnOk result (out.new.items ≡ out.old.items ++ barred_lines (N.named names.now) n (those n (has barred))) }
 {
     for r in 0..n {
         push_barred(out, names, r, barred.contains(r))?;
@@ -197,7 +197,7 @@ fn push_owners<N: Named>(
     n: u8,
     owners: &[Option<u8>],
 ) -> Result<(), AllocError>
-    ensures { OnOk result (out.new.items ≡ out.old.items ++ owner_lines (named names.now) n owners.now) }
+    ensures { OnOk result (out.new.items ≡ out.old.items ++ owner_lines (N.named names.now) n owners.now) }
 {
     for r in 0..n {
         push_owner(out, names, r, owner_of(owners, r))?;
@@ -217,7 +217,7 @@ pub fn push_game<N: Named>(
     barred: RegionSet,
     owners: &[Option<u8>],
 ) -> Result<(), AllocError>
-    ensures { OnOk result (out.new.items ≡ out.old.items ++ game_bytes (named names.now) n (record { phase = phase; units = units.now; dislodged = dislodged.now; barred = those n (has barred); owners = owners.now })) }
+    ensures { OnOk result (out.new.items ≡ out.old.items ++ game_bytes (N.named names.now) n (record { phase = phase; units = units.now; dislodged = dislodged.now; barred = those n (has barred); owners = owners.now })) }
 {
     push_phase(out, phase)?;
     push_units(heap, out, names, n, units)?;

@@ -55,7 +55,7 @@ fn push_marks(out: &mut Vec<u8>, x: Report) -> Result<(), AllocError>
 }
 
 fn push_report<N: Named>(out: &mut Vec<u8>, names: &N, x: Report) -> Result<(), AllocError>
-    ensures { OnOk result (out.new.items ≡ out.old.items ++ report_line (named names.now) x) }
+    ensures { OnOk result (out.new.items ≡ out.old.items ++ report_line (N.named names.now) x) }
 {
     push_letter(out, x.unit.power)?;
     push_word(out, names.name(x.unit.region))?;
@@ -71,7 +71,7 @@ fn push_marked<N: Named>(
     marked: bool,
     x: Option<Report>,
 ) -> Result<(), AllocError>
-    ensures { OnOk result (out.new.items ≡ out.old.items ++ marked_line (named names.now) marked x) }
+    ensures { OnOk result (out.new.items ≡ out.old.items ++ marked_line (N.named names.now) marked x) }
 {
     let Some(x) = x else {
         return Ok(());
@@ -119,7 +119,7 @@ fn push_marked_table<N: Named>(
 ) -> Result<(), AllocError>
     requires long { length marked.now ≡ 256 }
     requires wide { length table.now ≡ 256 }
-    ensures { OnOk result (out.new.items ≡ out.old.items ++ by_region n (λ r. marked_line (named names.now) (slice_index_or marked.now r false) (slice_index_or table.now r None))) }
+    ensures { OnOk result (out.new.items ≡ out.old.items ++ by_region n (λ r. marked_line (N.named names.now) (slice_index_or marked.now r false) (slice_index_or table.now r None))) }
 {
     for r in 0..n {
         push_marked(out, names, marked[r as usize], table[r as usize])?;
@@ -136,7 +136,7 @@ pub fn push_moves<N: Named>(
     texts: &[Written],
     reports: &[Report],
 ) -> Result<(), AllocError>
-    ensures { OnOk result (out.new.items ≡ out.old.items ++ move_lines (named names.now) n texts.now reports.now) }
+    ensures { OnOk result (out.new.items ≡ out.old.items ++ move_lines (N.named names.now) n texts.now reports.now) }
 {
     let table = by_region(heap, reports)?;
     let mut marked = filled(heap, false, 256)?;

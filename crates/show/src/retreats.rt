@@ -31,7 +31,7 @@ fn push_goal<N: Named>(
     arrives: bool,
     goal: Option<u8>,
 ) -> Result<(), AllocError>
-    ensures { OnOk result (out.new.items ≡ out.old.items ++ retreat_words (named names.now) arrives goal) }
+    ensures { OnOk result (out.new.items ≡ out.old.items ++ retreat_words (N.named names.now) arrives goal) }
 {
     match goal {
         None => push(out, b"hold gone"),
@@ -50,7 +50,7 @@ fn push_retreat<N: Named>(
     u: Unit,
     goal: Option<u8>,
 ) -> Result<(), AllocError>
-    ensures { OnOk result (out.new.items ≡ out.old.items ++ goal_line (named names.now) arrives u goal) }
+    ensures { OnOk result (out.new.items ≡ out.old.items ++ goal_line (N.named names.now) arrives u goal) }
 {
     push_letter(out, u.power)?;
     push_word(out, names.name(u.region))?;
@@ -65,7 +65,7 @@ fn push_going<N: Named>(
     d: Option<Dislodged>,
     goal: Option<u8>,
 ) -> Result<(), AllocError>
-    ensures { OnOk result (out.new.items ≡ out.old.items ++ going_line (named names.now) arrives d goal) }
+    ensures { OnOk result (out.new.items ≡ out.old.items ++ going_line (N.named names.now) arrives d goal) }
 {
     match d {
         None => Ok(()),
@@ -107,7 +107,7 @@ fn push_going_table<N: Named>(
     requires long { length counts.now ≡ 256 }
     requires wide { length table.now ≡ 256 }
     requires far { length going.now ≡ 256 }
-    ensures { OnOk result (((goals : List (Option ℕ)) → Counted counts.now goals → out.new.items ≡ out.old.items ++ by_region n (λ r. going_line (named names.now) (alone (λ t. goals_in t goals) (slice_index_or going.now r None)) (slice_index_or table.now r None) (slice_index_or going.now r None)))) }
+    ensures { OnOk result (((goals : List (Option ℕ)) → Counted counts.now goals → out.new.items ≡ out.old.items ++ by_region n (λ r. going_line (N.named names.now) (alone (λ t. goals_in t goals) (slice_index_or going.now r None)) (slice_index_or table.now r None) (slice_index_or going.now r None)))) }
 {
     for r in 0..n {
         let goal = going[r as usize];
@@ -126,7 +126,7 @@ pub fn push_retreats<N: Named>(
     goals: &[Option<u8>],
 ) -> Result<(), AllocError>
     requires { length goals.now ≡ length dislodged.now }
-    ensures { OnOk result (((m : Board) (g : Game) (ws : List Written) → length m.regions ≡ n → g.dislodged ≡ dislodged.now → goals.now ≡ map (retreat_of m g ws) g.dislodged → out.new.items ≡ out.old.items ++ retreat_lines (named names.now) m g ws)) }
+    ensures { OnOk result (((m : Board) (g : Game) (ws : List Written) → length m.regions ≡ n → g.dislodged ≡ dislodged.now → goals.now ≡ map (retreat_of m g ws) g.dislodged → out.new.items ≡ out.old.items ++ retreat_lines (N.named names.now) m g ws)) }
 {
     let table = by_region(heap, dislodged)?;
     let counts = goal_counts(heap, goals)?;

@@ -45,7 +45,7 @@ fn fill<X: Placed + Copy>(table: &mut Vec<Option<X>>, xs: &[X])
     requires blank { table.old.items ≡ replicate 256 None }
     requires long { vec_len table.old ≡ 256 }
     ensures long { vec_len table.new ≡ 256 }
-    ensures tabled { Tabled place_of table.new.items xs.now }
+    ensures tabled { Tabled X.place_of table.new.items xs.now }
 {
     for i in (0..xs.len()).rev() {
         let x = xs[i];
@@ -57,7 +57,7 @@ pub(super) fn by_region<X: Placed + Copy>(
     heap: Global,
     xs: &[X],
 ) -> Result<Vec<Option<X>>, AllocError>
-    ensures { IfOk result (λ v. (vec_len v ≡ 256) × Tabled place_of v.items xs.now) }
+    ensures { IfOk result (λ v. (vec_len v ≡ 256) × Tabled X.place_of v.items xs.now) }
 {
     let mut table = filled(heap, None, 256)?;
     fill(&mut table, xs);

@@ -26,7 +26,7 @@ fn push_change<N: Named>(
     u: Unit,
     word: &[u8],
 ) -> Result<(), AllocError>
-    ensures { OnOk result (out.new.items ≡ out.old.items ++ then (letter u.power) (then (name (named names.now) u.region) (end word.now))) }
+    ensures { OnOk result (out.new.items ≡ out.old.items ++ then (letter u.power) (then (name (N.named names.now) u.region) (end word.now))) }
 {
     push_letter(out, u.power)?;
     push_word(out, names.name(u.region))?;
@@ -40,7 +40,7 @@ fn push_went<N: Named>(
     before: Option<Unit>,
     after: Option<Unit>,
 ) -> Result<(), AllocError>
-    ensures { OnOk result (out.new.items ≡ out.old.items ++ went_line (named names.now) before after) }
+    ensures { OnOk result (out.new.items ≡ out.old.items ++ went_line (N.named names.now) before after) }
 {
     let Some(u) = before else {
         return Ok(());
@@ -57,7 +57,7 @@ fn push_came<N: Named>(
     before: Option<Unit>,
     after: Option<Unit>,
 ) -> Result<(), AllocError>
-    ensures { OnOk result (out.new.items ≡ out.old.items ++ came_line (named names.now) before after) }
+    ensures { OnOk result (out.new.items ≡ out.old.items ++ came_line (N.named names.now) before after) }
 {
     let Some(u) = after else {
         return Ok(());
@@ -74,7 +74,7 @@ fn push_changes<N: Named>(
     before: Option<Unit>,
     after: Option<Unit>,
 ) -> Result<(), AllocError>
-    ensures { OnOk result (out.new.items ≡ out.old.items ++ (went_line (named names.now) before after ++ came_line (named names.now) before after)) }
+    ensures { OnOk result (out.new.items ≡ out.old.items ++ (went_line (N.named names.now) before after ++ came_line (N.named names.now) before after)) }
 {
     push_went(out, names, before, after)?;
     push_came(out, names, before, after)
@@ -89,7 +89,7 @@ fn push_change_table<N: Named>(
 ) -> Result<(), AllocError>
     requires old { length before.now ≡ 256 }
     requires new { length after.now ≡ 256 }
-    ensures { OnOk result (out.new.items ≡ out.old.items ++ by_region n (λ r. went_line (named names.now) (slice_index_or before.now r None) (slice_index_or after.now r None) ++ came_line (named names.now) (slice_index_or before.now r None) (slice_index_or after.now r None))) }
+    ensures { OnOk result (out.new.items ≡ out.old.items ++ by_region n (λ r. went_line (N.named names.now) (slice_index_or before.now r None) (slice_index_or after.now r None) ++ came_line (N.named names.now) (slice_index_or before.now r None) (slice_index_or after.now r None))) }
 {
     for r in 0..n {
         push_changes(out, names, before[r as usize], after[r as usize])?;
@@ -106,7 +106,7 @@ pub fn push_winter<N: Named>(
     before: &[Unit],
     after: &[Unit],
 ) -> Result<(), AllocError>
-    ensures { OnOk result (out.new.items ≡ out.old.items ++ winter_lines (named names.now) n before.now after.now) }
+    ensures { OnOk result (out.new.items ≡ out.old.items ++ winter_lines (N.named names.now) n before.now after.now) }
 {
     let old = by_region(heap, before)?;
     let new = by_region(heap, after)?;

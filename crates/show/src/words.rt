@@ -36,7 +36,7 @@ pub(super) fn arm(fleet: bool) -> &'static [u8]
 
 // A name that ends a line.
 pub(super) fn end_name<N: Named>(out: &mut Vec<u8>, names: &N, r: u8) -> Result<(), AllocError>
-    ensures { OnOk result (out.new.items ≡ out.old.items ++ end (name (named names.now) r)) }
+    ensures { OnOk result (out.new.items ≡ out.old.items ++ end (name (N.named names.now) r)) }
 {
     push(out, names.name(r))?;
     push(out, b"\n")
@@ -55,7 +55,7 @@ pub(super) fn push_named<N: Named>(
     word: &[u8],
     r: u8,
 ) -> Result<(), AllocError>
-    ensures { OnOk result (out.new.items ≡ out.old.items ++ then word.now (name (named names.now) r)) }
+    ensures { OnOk result (out.new.items ≡ out.old.items ++ then word.now (name (N.named names.now) r)) }
 {
     push_word(out, word)?;
     push(out, names.name(r))
@@ -69,14 +69,14 @@ fn push_joined<N: Named>(
     from: u8,
     to: u8,
 ) -> Result<(), AllocError>
-    ensures { OnOk result (out.new.items ≡ out.old.items ++ then word.now (then (name (named names.now) from) (name (named names.now) to))) }
+    ensures { OnOk result (out.new.items ≡ out.old.items ++ then word.now (then (name (N.named names.now) from) (name (N.named names.now) to))) }
 {
     push_word(out, word)?;
     push_named(out, names, names.name(from), to)
 }
 
 pub(super) fn push_order<N: Named>(out: &mut Vec<u8>, names: &N, o: Order) -> Result<(), AllocError>
-    ensures { OnOk result (out.new.items ≡ out.old.items ++ order_words (named names.now) o) }
+    ensures { OnOk result (out.new.items ≡ out.old.items ++ order_words (N.named names.now) o) }
 {
     match o {
         Order::Hold => push(out, b"hold"),

@@ -98,7 +98,7 @@ impl Sought for ForHold {
 // One, and the supports that are sought.
 pub fn one_and_support<S: Sought>(sought: &S, lookup: &Lookup, xs: &[Resolution]) -> Span
     requires indexed { Indexed lookup.now xs.now }
-    ensures { result ≡ sum (exactly 1) (support (test sought.now) xs.now) }
+    ensures { result ≡ sum (exactly 1) (support (S.test sought.now) xs.now) }
 {
     let r = sought.target();
     let mut acc = Span {

@@ -17,8 +17,8 @@ onward c =
     after_autumn m g ws (vec_items c.in_ok-units.units) (vec_items c.clear.new.self) (vec_items c.in_ok-owners.owners) c.requires c.in_ok-units.ensures (search rules)
     (c.in_ok-owners.ensures ∙ (λ i. owners_from 0 m.regions (c.as_slice.ensures.value i) (c.as_slice-2.ensures.value i)))
 
-pub invariant-of-p-2 : goal.invariant-of-p-2
-invariant-of-p-2 c =
+pub invariant_of-p-2 : goal.invariant_of-p-2
+invariant_of-p-2 c =
     let p = c.args.p.now in
     (stays-lawful (board_of p) (game_of p) (vec_items c.args.texts.now.list) p.atlas.good p.legal _ (onward c), tt)
 

@@ -15,8 +15,8 @@ onward c =
     let ws = vec_items c.args.texts.now.list in
     after-moves m g ws c.next-p.result (vec_items c.in_ok-moved.moved.units) (vec_items c.in_ok-moved.moved.dislodged) c.in_ok-moved.moved.barred c.requires c.next-p.ensures c.in_ok-moved.ensures.moved.units c.in_ok-moved.ensures.moved.dislodged c.in_ok-moved.ensures.moved.barred
 
-pub invariant-of-p : goal.invariant-of-p
-invariant-of-p c =
+pub invariant_of-p : goal.invariant_of-p
+invariant_of-p c =
     let p = c.args.p.now in
     (stays-lawful (board_of p) (game_of p) (vec_items c.args.texts.now.list) p.atlas.good p.legal _ (onward c), tt)
 

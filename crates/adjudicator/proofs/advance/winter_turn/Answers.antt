@@ -15,8 +15,8 @@ onward c =
     let ws = vec_items c.args.texts.now.list in
     after_winter m g ws (vec_items c.in_ok-units.units) (vec_items c.clear.new.self) c.requires c.in_ok-units.ensures (search rules)
 
-pub invariant-of-p : goal.invariant-of-p
-invariant-of-p c =
+pub invariant_of-p : goal.invariant_of-p
+invariant_of-p c =
     let p = c.args.p.now in
     (stays-lawful (board_of p) (game_of p) (vec_items c.args.texts.now.list) p.atlas.good p.legal _ (onward c), tt)
 

@@ -22,11 +22,11 @@ loop-i-preserved c =
           let last = vec_items c.loop-i.last in
           let before = vec_items c.loop-i.before in
           let to = w.aim-to.ensures in
-          let first : get_or last w.aim-to.result w.index.result.now ≡ get_or last w.aim-to.result 0 = get_or_default last w.aim-to.result w.index.result.now 0 (omega (arith, c.loop-i.last.ok.0, inv.0, w.aim-to.type-inv)) in
+          let first : get_or last w.aim-to.result w.index.result.now ≡ get_or last w.aim-to.result 0 = get_or_default last w.aim-to.result w.index.result.now 0 (omega (arith, c.loop-i.last.ok.0, inv.0, w.aim-to.type_inv)) in
           let lasts : vec_items c.if-acts.last ≡ set last (aim (get_or xs i nobody).order) (i + 1) = ap vec_items w.last-is ∙ ap (λ q. set last q (i + 1)) to in
           let befores : vec_items c.if-acts.before ≡ set before i (get_or last (aim (get_or xs i nobody).order) 0) =
           ap vec_items w.before-is ∙ ap (set before i) (w.index.ensures ∙ first ∙ ap (λ q. get_or last q 0) to) in
-          let more = chain_more i last before xs (omega (arith, c.loop-i.before.ok.0, inv.1, c.requires.few)) (omega (arith, c.loop-i.last.ok.0, inv.0)) (subst (λ n. n < 256) to w.aim-to.type-inv) (sym c.acts.ensures ∙ w.if-acts.true) inv.2 in
+          let more = chain_more i last before xs (omega (arith, c.loop-i.before.ok.0, inv.1, c.requires.few)) (omega (arith, c.loop-i.last.ok.0, inv.0)) (subst (λ n. n < 256) to w.aim-to.type_inv) (sym c.acts.ensures ∙ w.if-acts.true) inv.2 in
           (search rules, search rules, subst (λ b. Chaining (i + 1) (vec_items c.if-acts.last) b xs) (sym befores) (subst (λ a. Chaining (i + 1) a (set before i (get_or last (aim (get_or xs i nobody).order) 0)) xs) (sym lasts) more))
       | else-acts w ↦
           let more = chain_pass i (vec_items c.loop-i.last) (vec_items c.loop-i.before) xs (sym c.acts.ensures ∙ w.if-acts.false) inv.2 in

@@ -14,14 +14,14 @@ returns-in_default g c =
     let more = every_more c.args.count c.loop-i.i (g.R.Reader.width c.args.reader.now) (g.R.Reader.good c.args.reader.now) c.loop-i.rest.now (omega arith) in
     (sym c.loop-i.invariant.2 ∙ more ∙ ap (λ (t : Bool). t && every_entry (c.args.count - (c.loop-i.i + 1)) (g.R.Reader.width c.args.reader.now) (g.R.Reader.good c.args.reader.now) (drop (g.R.Reader.width c.args.reader.now) c.loop-i.rest.now)) bad, refl)
 
-pub offset-bounds-rest-words_each : goal.offset-bounds-rest-words_each
-offset-bounds-rest-words_each g c = let room = (room_more c.args.count c.loop-i.i (g.R.Reader.width c.args.reader.now) (length c.loop-i.rest.now) (omega arith) c.loop-i.invariant.0).0 in search rules
+pub offset_bounds-rest-words_each : goal.offset_bounds-rest-words_each
+offset_bounds-rest-words_each g c = let room = (room_more c.args.count c.loop-i.i (g.R.Reader.width c.args.reader.now) (length c.loop-i.rest.now) (omega arith) c.loop-i.invariant.0).0 in search rules
 
-pub slice-bounds-rest-count : goal.slice-bounds-rest-count
-slice-bounds-rest-count g c = let room = (room_more c.args.count c.loop-i.i (g.R.Reader.width c.args.reader.now) (length c.loop-i.rest.now) (omega arith) c.loop-i.invariant.0).0 in search rules
+pub slice_bounds-rest-count : goal.slice_bounds-rest-count
+slice_bounds-rest-count g c = let room = (room_more c.args.count c.loop-i.i (g.R.Reader.width c.args.reader.now) (length c.loop-i.rest.now) (omega arith) c.loop-i.invariant.0).0 in search rules
 
-pub slice-bounds-rest-start : goal.slice-bounds-rest-start
-slice-bounds-rest-start g c = let room = (room_more c.args.count c.loop-i.i (g.R.Reader.width c.args.reader.now) (length c.loop-i.rest.now) (omega arith) c.loop-i.invariant.0).0 in search rules
+pub slice_bounds-rest-start : goal.slice_bounds-rest-start
+slice_bounds-rest-start g c = let room = (room_more c.args.count c.loop-i.i (g.R.Reader.width c.args.reader.now) (length c.loop-i.rest.now) (omega arith) c.loop-i.invariant.0).0 in search rules
 
 pub loop-i-preserved : goal.loop-i-preserved
 loop-i-preserved g c =

@@ -11,7 +11,7 @@ loop-k-preserved c =
     let m = board_of c.args.atlas.now in
     let xs = vec_items c.loop-k.xs in
     let n = vec_len c.args.xs.now + 1 in
-    let here : vec_items c.swap.new.x ≡ round m xs = ap vec_items c.swap.ensures.x-after ∙ c.round_into-changed.ensures.items ∙ ap (round m) c.as_slice-in-loop-k-2.ensures.value in (
+    let here : vec_items c.swap.new.x ≡ round m xs = ap vec_items c.swap.ensures.x_after ∙ c.round_into-changed.ensures.items ∙ ap (round m) c.as_slice-in-loop-k-2.ensures.value in (
       ap (rounds (n - (c.loop-k.k + 1)) m) here ∙ sym (rounds_more n c.loop-k.k m xs (omega arith)) ∙ c.loop-k.invariant.0,
       search rules,
       search rules,
@@ -43,7 +43,7 @@ returns-then-not-changed c =
     let same = c.as_slice-in-loop-k-2.ensures.value in
     let still = c.round_into-changed.ensures.still c.if-not-changed.true in
     let fixed = rounds_fixed (vec_len c.args.xs.now + 1 - c.loop-k.k) m xs (subst (λ l. round m l ≡ l) same (sym c.round_into-changed.ensures.items ∙ still)) in
-    let here : vec_items c.swap.new.x ≡ xs = ap vec_items c.swap.ensures.x-after ∙ still ∙ same in
+    let here : vec_items c.swap.new.x ≡ xs = ap vec_items c.swap.ensures.x_after ∙ still ∙ same in
     let long : vec_len c.args.xs.now ≡ length start = omega (arith, c.args.xs.now.ok.0) in
     record {
       items = here ∙ sym fixed ∙ c.loop-k.invariant.0 ∙ ap (λ n. rounds (n + 1) m start) long;

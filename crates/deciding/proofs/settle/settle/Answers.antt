@@ -10,7 +10,7 @@ pub decide_all-requires-2 : goal.decide_all-requires-2
 decide_all-requires-2 c =
     let m = board_of c.args.atlas.now in
     let ys = vec_items c.decide_all.new.xs in
-    let here : vec_items c.swap.new.x ≡ strand m ys = ap vec_items c.swap.ensures.x-after ∙ c.strand_into.ensures.items ∙ ap (strand m) c.as_slice-5.ensures.value in
+    let here : vec_items c.swap.new.x ≡ strand m ys = ap vec_items c.swap.ensures.x_after ∙ c.strand_into.ensures.items ∙ ap (strand m) c.as_slice-5.ensures.value in
     record {
       indexed = subst (Indexed c.args.lookup.now) (sym here) (indexed_strand m c.args.lookup.now ys c.decide_all.ensures.indexed);
       inside = subst Inside (sym here) (inside_strand m ys c.decide_all.ensures.inside);

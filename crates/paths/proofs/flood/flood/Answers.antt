@@ -1,4 +1,5 @@
 use Rattle.std.proofs.Common.{◌≡◌, ◌-◌, [], ◌∷◌, length, sym, refl, ap, ◌∙◌, arith, rules}
+use Rattle.std.proofs.lemmas.Bool.{eqb-true, and_parts}
 use Rattle.values.specs.Fold.{gather, any, is_in}
 use Rattle.geography.proofs.Bitwise.{has_none, has_same}
 use Rattle.board.specs.Atlas.{board_of}
@@ -29,7 +30,7 @@ returns-after-loop-k c = λ q. c.loop-k.invariant.1 q ∙ ap (is_in q) (sym (flo
 pub returns-then-eq : goal.returns-then-eq
 returns-then-eq c = λ q.
     let inv = c.loop-k.invariant in
-    let same = c.if-eq.ensures in
+    let same = and_parts _ _ (sym c.if-eq.ensures) in
     inv.1 q ∙
-    sym (flood_fixed (board_of c.args.atlas.now) (counts c.args.sure c.args.xs.now) c.args.f c.args.t (length c.args.xs.now - c.loop-k.k) c.args.xs.now inv.0 (λ p. sym (c.grow-next.ensures inv.0 inv.1 p) ∙ has_same c.grow-next.result c.loop-k.seen (same.0.0 refl) (same.1.0 refl) p ∙ inv.1 p) q) ∙
+    sym (flood_fixed (board_of c.args.atlas.now) (counts c.args.sure c.args.xs.now) c.args.f c.args.t (length c.args.xs.now - c.loop-k.k) c.args.xs.now inv.0 (λ p. sym (c.grow-next.ensures inv.0 inv.1 p) ∙ has_same c.grow-next.result c.loop-k.seen (eqb-true _ _ same.0) (eqb-true _ _ same.1) p ∙ inv.1 p) q) ∙
     ap (is_in q) inv.2

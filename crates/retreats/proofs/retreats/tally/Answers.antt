@@ -13,8 +13,8 @@ loop-i-init c = (
   region_start 0 goals_in (vec_items c.args.counts.now) c.args.goals.now (length c.args.goals.now) (λ r. refl) c.requires.blank (omega arith),
 )
 
-pub overflow-add-index_mut : goal.overflow-add-index_mut
-overflow-add-index_mut c =
+pub overflow_add-index_mut : goal.overflow_add-index_mut
+overflow_add-index_mut c =
     let small = counted_le (vec_items c.loop-i.counts) c.args.goals.now c.loop-i.i c.in-Some.t c.index_mut.result.now c.loop-i.invariant.1 (omega arith) (omega (arith, c.loop-i.counts.ok.0)) c.index_mut.ensures.value in
     search rules
 

@@ -17,8 +17,8 @@ loop-cursor-init g c =
     let at = cursor_start r c.last_aimed-cursor.result c.args.xs.now c.last_aimed-cursor.ensures in
     (at, walk_start (g.S.Sought.test s) (λ y rest. sum (counted y.value) rest) (exactly 0) r aimed c.last_aimed-cursor.result c.args.xs.now c.last_aimed-cursor.ensures, omega arith, let low = cursor_low at in omega arith)
 
-pub offset-bounds-xs-i : goal.offset-bounds-xs-i
-offset-bounds-xs-i g c = search rules
+pub offset_bounds-xs-i : goal.offset_bounds-xs-i
+offset_bounds-xs-i g c = search rules
 
 pub bounds-xs-i : goal.bounds-xs-i
 bounds-xs-i g c = search rules

@@ -6,8 +6,8 @@ use Rattle.position.specs.Tables.{game_from}
 use Rattle.position.proofs.Empty.{empty-lawful}
 use Rattle.position.proofs.position.Position.empty.Goals as goal
 
-pub invariant-of-result : goal.invariant-of-result
-invariant-of-result c =
+pub invariant_of-result : goal.invariant_of-result
+invariant_of-result c =
     let units = c.new.ensures.items in
     let dislodged = c.new-2.ensures.items in
     let owners = c.new-3.ensures.items in (
