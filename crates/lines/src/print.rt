@@ -8,7 +8,7 @@ use std::alloc::AllocError;
 fn push_word(out: &mut String, w: usize) -> Result<(), AllocError>
     ensures { OnOk result (string_bytes out.new ≡ string_bytes out.old ++ word_bytes w) }
 {
-    let text = format!(in out.allocator(); " {w}")?;
+    let text = format!(in *out.allocator(); " {w}")?;
     out.push_str(text.as_str())
 }
 

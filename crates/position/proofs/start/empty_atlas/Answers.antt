@@ -13,4 +13,4 @@ invariant_of-result c =
     let regions = c.new-5.ensures.items in
     let march = c.in_ok-march.ensures ∙ c.new.ensures.items in
     let sail = c.in_ok-sail.ensures ∙ c.new-3.ensures.items in
-    (rw (regions, march, sail) empty_good, tt)
+    record { good = rw (regions, march, sail) empty_good }

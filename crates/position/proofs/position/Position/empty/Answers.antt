@@ -10,8 +10,8 @@ pub invariant_of-result : goal.invariant_of-result
 invariant_of-result c =
     let units = c.new.ensures.items in
     let dislodged = c.new-2.ensures.items in
-    let owners = c.new-3.ensures.items in (
-      ap (λ m. lawful m (game_from (length m.regions) SpringMoves (vec_items c.new.result) (vec_items c.new-2.result) empty (vec_items c.new-3.result))) c.in_ok-atlas.ensures ∙
-          rw (units, dislodged, owners) empty-lawful,
-      tt,
-    )
+    let owners = c.new-3.ensures.items in
+    record {
+      legal = ap (λ m. lawful m (game_from (length m.regions) SpringMoves (vec_items c.new.result) (vec_items c.new-2.result) empty (vec_items c.new-3.result))) c.in_ok-atlas.ensures ∙
+          rw (units, dislodged, owners) empty-lawful;
+    }
