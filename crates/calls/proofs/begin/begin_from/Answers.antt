@@ -11,7 +11,7 @@ read_board-requires c = cut_roomy c.args.words.now c.in-Some.sections c.in-Some.
 
 pub returns-in_err-atlas : goal.returns-in_err-atlas
 returns-in_err-atlas c =
-    let p = err_from_is_err_and c.from-residual.result c.from-residual.ensures.1 in
+    let p = err_from_is_err_and c.from_residual.result c.from_residual.ensures.1 in
     rw (p.1, p.2) (board_refused c.args.words.now c.in-Some.sections c.in-Some.ensures c.in_err-atlas.field-0.0 c.in_err-atlas.ensures)
 
 pub read_game-requires : goal.read_game-requires

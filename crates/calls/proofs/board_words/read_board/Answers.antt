@@ -22,10 +22,10 @@ sail_ill s bad =
 
 pub returns-in_err-march : goal.returns-in_err-march
 returns-in_err-march c =
-    let p = err_from_is_err_and c.from-residual-in_err-march.result c.from-residual-in_err-march.ensures.1 in
+    let p = err_from_is_err_and c.from_residual-in_err-march.result c.from_residual-in_err-march.ensures.1 in
     rw (p.1, p.2) (handed_on _ (board_good c.args.s.now) Unlawful c.in_err-march.field-0.0 (march_ill c.args.s.now) c.in_err-march.ensures)
 
 pub returns-in_err-sail : goal.returns-in_err-sail
 returns-in_err-sail c =
-    let p = err_from_is_err_and c.from-residual-in_err-sail.result c.from-residual-in_err-sail.ensures.1 in
+    let p = err_from_is_err_and c.from_residual-in_err-sail.result c.from_residual-in_err-sail.ensures.1 in
     rw (p.1, p.2) (handed_on _ (board_good c.args.s.now) Unlawful c.in_err-sail.field-0.0 (sail_ill c.args.s.now) c.in_err-sail.ensures)

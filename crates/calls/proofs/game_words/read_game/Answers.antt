@@ -17,12 +17,12 @@ returns-in_default-read_barred c = (barred_ill (board_of c.args.atlas) c.args.s.
 
 pub returns-in_err-units : goal.returns-in_err-units
 returns-in_err-units c =
-    let p = err_from_is_err_and c.from-residual.result c.from-residual.ensures.1 in
+    let p = err_from_is_err_and c.from_residual.result c.from_residual.ensures.1 in
     rw (p.1, p.2) (handed_on _ (game_good (board_of c.args.atlas) c.args.s.now) Unlawful c.in_err-units.field-0.0 (units_ill (board_of c.args.atlas) c.args.s.now c.requires.same) c.in_err-units.ensures)
 
 pub returns-in_err-dislodged : goal.returns-in_err-dislodged
 returns-in_err-dislodged c =
-    let p = err_from_is_err_and c.from-residual-in_err-dislodged.result c.from-residual-in_err-dislodged.ensures.1 in
+    let p = err_from_is_err_and c.from_residual-in_err-dislodged.result c.from_residual-in_err-dislodged.ensures.1 in
     rw (p.1, p.2) (handed_on _ (game_good (board_of c.args.atlas) c.args.s.now) Unlawful c.in_err-dislodged.field-0.0 (dislodged_ill (board_of c.args.atlas) c.args.s.now c.requires.same) c.in_err-dislodged.ensures)
 
 -- what was read by now is the game of the parts

@@ -9,7 +9,7 @@ use Rattle.session.proofs.opening.open.Goals as goal
 
 pub returns-in_err-position : goal.returns-in_err-position
 returns-in_err-position c =
-    let p = err_from_is_err_and c.from-residual-in_err-position.result c.from-residual-in_err-position.ensures.1 in
+    let p = err_from_is_err_and c.from_residual-in_err-position.result c.from_residual-in_err-position.ensures.1 in
     let b = board_entries c.in_ok-board.board in
     let ws = c.as_slice.result.now in
     rw (p.1, p.2) (same_fault b.names c.in_err-position.field-0.0 (opened c.args.board.now c.args.game.now) (judged b.names ws (begin_verdict ws))

@@ -12,7 +12,7 @@ loop-line-preserved c =
 pub returns-in_err-read : goal.returns-in_err-read
 returns-in_err-read c =
     let told = c.in-Some.ensures in
-    let p = err_from_is_err_and c.from-residual-in_err-read.result c.from-residual-in_err-read.ensures.1 in
+    let p = err_from_is_err_and c.from_residual-in_err-read.result c.from_residual-in_err-read.ensures.1 in
     rw (p.1, p.2) (read_fault board_step c.loop-line.lines.number (board_entries c.loop-line.board) c.loop-line.lines.rest.now (board_file c.args.text.now) c.loop-line.invariant c.in-Some.line.bytes.now c.take.new.self.rest.now told.lines board_entries (board_entries c.read.new.self) c.in-Some.line.number c.in_err-read.field-0.0 told.numbers.0 c.in_err-read.ensures)
 
 pub returns : goal.returns

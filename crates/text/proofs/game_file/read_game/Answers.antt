@@ -15,7 +15,7 @@ pub returns-in_err-read : goal.returns-in_err-read
 returns-in_err-read c =
     let told = c.in-Some.ensures in
     let names = names_of c.args.names.now in
-    let p = err_from_is_err_and c.from-residual-in_err-read.result c.from-residual-in_err-read.ensures.1 in
+    let p = err_from_is_err_and c.from_residual-in_err-read.result c.from_residual-in_err-read.ensures.1 in
     rw (p.1, p.2) (read_fault (game_step names) c.loop-line.lines.number (game_entries c.loop-line.game) c.loop-line.lines.rest.now (game_file names c.args.text.now) c.loop-line.invariant c.in-Some.line.bytes.now c.take.new.self.rest.now told.lines game_entries (game_entries c.read.new.self) c.in-Some.line.number c.in_err-read.field-0.0 told.numbers.0 c.in_err-read.ensures)
 
 pub returns : goal.returns

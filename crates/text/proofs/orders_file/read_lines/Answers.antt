@@ -15,7 +15,7 @@ pub returns-in_err-read : goal.returns-in_err-read
 returns-in_err-read c =
     let told = c.in-Some.ensures in
     let names = names_of c.args.names.now in
-    let p = err_from_is_err_and c.from-residual-in_err-read.result c.from-residual-in_err-read.ensures.1 in
+    let p = err_from_is_err_and c.from_residual-in_err-read.result c.from_residual-in_err-read.ensures.1 in
     rw (p.1, p.2) (read_fault (orders_step names) c.loop-line.lines.number (vec_items c.loop-line.orders) c.loop-line.lines.rest.now (orders_lines names c.args.text.now) c.loop-line.invariant c.in-Some.line.bytes.now c.take.new.self.rest.now told.lines lines_in (vec_items c.read.new.lines) c.in-Some.line.number c.in_err-read.field-0.0 told.numbers.0 c.in_err-read.ensures)
 
 pub returns : goal.returns

@@ -6,9 +6,9 @@ pub returns-in_default : goal.returns-in_default
 unfolding one_of
 returns-in_default c = search rules
 
-pub returns-in_default·2 : goal.returns-in_default·2
+pub returns-in_default-2 : goal.returns-in_default-2
 unfolding one_of
-returns-in_default·2 c = search rules
+returns-in_default-2 c = search rules
 
 pub returns-then-b-last : goal.returns-then-b-last
 unfolding one_of

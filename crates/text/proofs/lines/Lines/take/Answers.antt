@@ -14,6 +14,6 @@ returns c =
     let part = take_rest bs c.if-n-rest.next in
     let long = length-drop c.if-n-rest.next bs in
     elim c.if-n-rest.branch [
-      | then-n-rest w ↦ record { shorter = rw part (omega (arith, w.next-is, long)); lines = next_line bs _ _ some c.part_length-n.ensures.0 (inl (w.if-n-rest.true, w.next-is)); numbers = search rules }
-      | else-n-rest w ↦ record { shorter = rw part (omega (arith, w.next-is, long)); lines = next_line bs _ _ some c.part_length-n.ensures.0 (inr (w.if-n-rest.false, w.next-is)); numbers = search rules }
+      | then-n-rest w ↦ record { shorter = rw part (omega (arith, w.next-is, long)); lines = next_line bs _ _ some c.part_length-n.ensures.value (inl (w.if-n-rest.true, w.next-is)); numbers = search rules }
+      | else-n-rest w ↦ record { shorter = rw part (omega (arith, w.next-is, long)); lines = next_line bs _ _ some c.part_length-n.ensures.value (inr (w.if-n-rest.false, w.next-is)); numbers = search rules }
     ]

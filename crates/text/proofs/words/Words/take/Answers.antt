@@ -12,6 +12,6 @@ returns c =
     let n = c.part_length-n.result in
     let k = c.if-n-rest.next in
     let steps : n < length bs → k ≡ n + 1 = elim c.if-n-rest.branch [ then-n-rest w ↦ λ h. w.next-is | else-n-rest w ↦ λ h. absurd (omega (arith, h, w.if-n-rest.false)) ] in
-    let cut = next_word bs n k (ltb n (length bs)) c.part_length-n.ensures.0 refl steps in
+    let cut = next_word bs n k (ltb n (length bs)) c.part_length-n.ensures.value refl steps in
     let here : left c.args.self.now ≡ take (n - 0) bs ∷ cond (ltb n (length bs)) (words_of (take (length bs - k) (drop k bs))) [] = rw c.if-not-self.false cut in
     record { word = sym (ap front here); rest = sym (ap behind here); line = search rules }
