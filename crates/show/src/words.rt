@@ -1,5 +1,5 @@
 // Words of a line, each put behind the bytes that stand.
-ghost use Rattle.std.specs.Prelude.{◌≡◌, ℕ, List, [], ◌∷◌, ◌++◌, if◌then◌else◌, codes, OnOk};
+ghost use Rattle.std.specs.Prelude.{◌≡◌, ℕ, List, [], ◌∷◌, ◌++◌, cond, codes, OnOk};
 ghost use Rattle.show.specs.Words.{name, letter, arm, then, end, order_words};
 
 use super::names::Named;
@@ -43,7 +43,7 @@ pub(super) fn end_name<N: Named>(out: &mut Vec<u8>, names: &N, r: u8) -> Result<
 }
 
 fn go_word(convoyed: bool) -> &'static [u8]
-    ensures { result.now ≡ (if convoyed then codes "water" else codes "move") }
+    ensures { result.now ≡ cond convoyed (codes "water") (codes "move") }
 {
     if convoyed { b"water" } else { b"move" }
 }

@@ -18,7 +18,7 @@ onward c =
 pub invariant_of-p : goal.invariant_of-p
 invariant_of-p c =
     let p = c.args.p.now in
-    (stays-lawful (board_of p) (game_of p) (vec_items c.args.texts.now.list) p.atlas.good p.legal _ (onward c), tt)
+    record { legal = stays-lawful (board_of p) (game_of p) (vec_items c.args.texts.now.list) p.atlas.good p.legal _ (onward c) }
 
 pub returns : goal.returns
 returns c = record { board = refl; game = onward (goal.at.returns c).After-next-p; reports = c.in_ok-moved.ensures.moved.reports }
