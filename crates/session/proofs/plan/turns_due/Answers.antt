@@ -42,7 +42,7 @@ loop-preserved c =
           (λ j. turns_in (vec_items (w.turns-is j)) ++ turns_due first n (c.next-phase.ensures j) (blocks_of (drop (w.taken-is j) blocks))) ∙
           elim w.else-taken-blocks.branch [
             | else-taken-blocks-via-then-taken-blocks+else-is_due w' ↦
-                on_waiting first k blocks i n was (turns_in (vec_items w.push-else-taken-blocks.new.self)) (all c) (so_far c) w'.index-blocks-taken.result w'.index-blocks-taken.is w'.if-taken-blocks.true (sym w'.is-due.ensures ∙ w'.if-is-due.false) here
+                on_waiting first k blocks i n was (turns_in (vec_items w.push-else-taken-blocks.new.self)) (all c) (so_far c) w'.index-blocks-taken.result w'.index-blocks-taken.is w'.if-taken-blocks.true (sym w'.is_due.ensures ∙ w'.if-is_due.false) here
             | else-taken-blocks-via-else-taken-blocks w' ↦
                 on_empty first k blocks i n was (turns_in (vec_items w.push-else-taken-blocks.new.self)) (all c) (so_far c) w'.if-taken-blocks.false here
           ]

@@ -4,7 +4,7 @@ use Rattle.position.specs.Position.{board_of, game_of}
 use Rattle.session.specs.Tables.{place_names}
 use Rattle.session.proofs.Telling.{with_lines, game_only, stands-next}
 use Rattle.session.proofs.play.play_phase.Goals as goal
-use Rattle.session.proofs.play.play_phase.Goals.{After-push_position, then-tells+in_ok-play_told, else-tells+in_ok-advance+in-Some·, else-tells+in_ok-advance+in-None·}
+use Rattle.session.proofs.play.play_phase.Goals.{After-push_position, then-tells+in_ok-play_told, else-tells+in_ok-advance+in-Some-1, else-tells+in_ok-advance+in-None-1}
 
 abbrev before : After-push_position → Type 0
 before c = board_of c.if-tells.p ≡ board_of c.args.p.now
@@ -32,7 +32,7 @@ returns c =
             game = stands-next names m g ws r old was now _ _ same next c.push_position.ensures;
             bytes = with_lines names m g ws r old was now _ _ same next c.push_position.ensures c.args.tells w.if-tells.true (ap vec_items w.out-is ∙ after.lines);
           }
-      | else-tells+in_ok-advance+in-Some· w ↦
+      | else-tells+in_ok-advance+in-Some-1 w ↦
           let after = w.in_ok-advance.ensures in
           let same : before c = ap board_of w.p-is ∙ after.board in
           let next : onward c = ap game_of w.p-is ∙ after.game in
@@ -41,7 +41,7 @@ returns c =
             game = stands-next names m g ws r old was now _ _ same next c.push_position.ensures;
             bytes = game_only names m g ws r old was now _ _ same next c.push_position.ensures c.args.tells w.if-tells.false (ap vec_items w.out-is);
           }
-      | else-tells+in_ok-advance+in-None· w ↦
+      | else-tells+in_ok-advance+in-None-1 w ↦
           let after = w.in_ok-advance.ensures in
           let same : before c = ap board_of w.p-is ∙ after.board in
           let next : onward c = ap game_of w.p-is ∙ after.game in
