@@ -12,21 +12,22 @@ import sys
 CRATES = ["values", "geography", "board", "assignment", "paths", "strength", "deciding", "game", "calls"]
 # What words.js calls; these and what they rest on are written.
 ROOTS = [
-    ("calls.Begin", "beginVerdict"),
-    ("calls.Begin", "beginBoard"),
-    ("calls.Begin", "beginGame"),
-    ("calls.Turn", "turnVerdict"),
-    ("calls.Turn", "turnGame"),
-    ("calls.Turn", "turnLast"),
+    ("calls.Begin", "begin_verdict"),
+    ("calls.Begin", "begin_board"),
+    ("calls.Begin", "begin_game"),
+    ("calls.Turn", "turn_verdict"),
+    ("calls.Turn", "turn_game"),
+    ("calls.Turn", "turn_last"),
     ("calls.Verdict", "number"),
-    ("calls.Verdict", "isAccepted"),
-    ("game.Game", "isMoves"),
+    ("calls.Verdict", "is_accepted"),
+    ("game.Game", "is_moves"),
 ]
-LIBRARY = {"mathlib.Core.Bool", "mathlib.Core.List", "mathlib.Core.Path", "Prim.Native.Nat", "lib.Dec", "lib.ListN"}
-LIBRARY_ARITY = {"cond": 3, "not": 1, "eqb": 2, "ltb": 2, "leb": 2, "length": 1, "getD": 3, "take": 2, "drop": 2, "map": 2, "suc": 1}
+LIBRARY = {"Rattle.std.specs.Prelude"}
+VARIANTS = {"Some", "None", "Ok", "Err"}
+LIBRARY_ARITY = {"cond": 3, "not": 1, "nat_eq": 2, "nat_lt": 2, "nat_le": 2, "leb": 2, "ltb": 2, "length": 1, "slice_index": 2, "slice_index_or": 3, "get_or": 3, "take": 2, "drop": 2, "map": 2, "suc": 1}
 # Precedence, and which way it groups.
-OPERATORS = {"∷": (5, "r"), "++": (5, "r"), "&&": (3, "l"), "||": (3, "l"), "+": (6, "l"), "-": (6, "l"), "*": (7, "l"), "/": (7, "l"), "%": (7, "l"), "^": (8, "r")}
-TOKEN = re.compile(r"\s+|--[^\n]*|(λ|→|∷|\+\+|&&|\|\||≡|×|[(){};,=]|\.\w[\w-]*|\d+|[^\s(){};,.=∷]+\.?|\.)")
+OPERATORS = {"∷": (5, "r"), "++": (5, "r"), "==": (4, "l"), "&&": (3, "l"), "||": (2, "l"), "+": (6, "l"), "-": (6, "l"), "*": (7, "l"), "/": (7, "l"), "%": (7, "l"), "^": (8, "r")}
+TOKEN = re.compile(r"\s+|--[^\n]*|(λ|→|∷|\+\+|&&|\|\||==|≡|×|[(){};,=]|\.\w[\w-]*|\d+|[^\s(){};,.=∷]+(?:\.(?=\s))?|\.)")
 
 
 def tokens(text):
@@ -80,17 +81,20 @@ class Parser:
         return ("lambda", names, self.term())
 
     def application(self):
-        head = self.atom()
+        head = self.tight()
         while True:
             token = self.peek()
             if token is None or token in OPERATORS or token in (")", "}", ";", ",", "="):
                 return head
-            if token.startswith(".") and len(token) > 1:
-                self.next()
-                head = ("field", head, token[1:])
-                continue
-            argument = self.atom()
+            argument = self.tight()
             head = ("apply", head[1], head[2] + [argument]) if head[0] == "apply" else ("apply", head, [argument])
+
+    def tight(self):
+        """An atom with the projections that are written tight behind it."""
+        head = self.atom()
+        while (self.peek() or "").startswith(".") and len(self.peek()) > 1:
+            head = ("field", head, self.next()[1:])
+        return head
 
     def atom(self):
         token = self.next()
@@ -217,12 +221,12 @@ class Definitions:
         if not names:
             return
         path, names = names.groups()
-        ours = re.match(r"Rattle·(\w+)[·.]specs\.(\w+)$", path)
+        ours = re.match(r"Rattle\.(\w+)\.specs\.(\w+)$", path)
         for name in (n.strip() for n in names.split(",")):
-            if path in LIBRARY:
-                scope[name] = ("library", name)
-            elif path.endswith("the-variants"):
+            if path.endswith("TheVariants") or (path in LIBRARY and name in VARIANTS):
                 scope[name] = ("variant", name)
+            elif path in LIBRARY:
+                scope[name] = ("library", name)
             elif ours:
                 scope[name] = ("definition", f"{ours.group(1)}.{ours.group(2)}", name)
 
@@ -335,6 +339,8 @@ def infix(operator, left, right):
         return f"({{head:{left},tail:{right}}})"
     if operator == "++":
         return f"library.append({left},{right})"
+    if operator == "==":
+        return f"({left}==={right})"
     if operator == "-":
         return f"Math.max(0,{left}-{right})"
     if operator == "/":

@@ -11,8 +11,10 @@ function toArray(list) {
 const library = {
   not: a => !a,
   suc: n => n + 1,
-  eqb: (a, b) => a === b,
+  nat_eq: (a, b) => a === b,
+  nat_lt: (a, b) => a < b,
   ltb: (a, b) => a < b,
+  nat_le: (a, b) => a <= b,
   leb: (a, b) => a <= b,
   cond: (t, a, b) => (t ? a : b),
   append: (a, b) => toArray(a).reduceRight((tail, head) => ({ head, tail }), b),
@@ -23,10 +25,12 @@ const library = {
     for (; n > 0 && list !== null; n--) list = list.tail;
     return list;
   },
-  getD(list, n, other) {
+  slice_index_or(list, n, other) {
     list = library.drop(n, list);
     return list === null ? other : list.head;
   },
+  get_or: (list, n, other) => library.slice_index_or(list, n, other),
+  slice_index: (list, n) => library.slice_index_or(list, n, 0),
 };
 
 const PHASES = ["SpringMoves", "SpringRetreats", "AutumnMoves", "AutumnRetreats", "Winter"];
@@ -58,18 +62,18 @@ let game = { phase: { variant: "SpringMoves", parts: [] }, units: null, dislodge
 let last = null;
 
 function begin(words) {
-  const verdict = calls_Begin_beginVerdict(words);
-  [board, game] = [calls_Begin_beginBoard(board, words), calls_Begin_beginGame(game, words)];
+  const verdict = calls_Begin_begin_verdict(words);
+  [board, game] = [calls_Begin_begin_board(board, words), calls_Begin_begin_game(game, words)];
   console.log("begin " + calls_Verdict_number(verdict));
-  if (calls_Verdict_isAccepted(verdict)) console.log(showGame(game));
+  if (calls_Verdict_is_accepted(verdict)) console.log(showGame(game));
 }
 
 function turn(words) {
-  const verdict = calls_Turn_turnVerdict(board, words);
-  const moves = game_Game_isMoves(game.phase);
-  [game, last] = [calls_Turn_turnGame(board, game, words), calls_Turn_turnLast(board, game, words, last)];
+  const verdict = calls_Turn_turn_verdict(board, words);
+  const moves = game_Game_is_moves(game.phase);
+  [game, last] = [calls_Turn_turn_game(board, game, words), calls_Turn_turn_last(board, game, words, last)];
   console.log("turn " + calls_Verdict_number(verdict));
-  if (!calls_Verdict_isAccepted(verdict)) return;
+  if (!calls_Verdict_is_accepted(verdict)) return;
   if (moves) console.log(showLast(last));
   console.log(showGame(game));
 }

@@ -1,7 +1,7 @@
 -- The tables after a phase are the next game, and that game is lawful.
-use Rattle.std.proofs.Common.{◌≡◌, ℕ, zero, suc, ◌+◌, ◌<◌, ◌≤◌, Bool, true, false, cond, ◌&&◌, ltb, List, [], ◌∷◌, length, Some, None, Option, sym, refl, ap, ◌∙◌, arith}
+use Rattle.std.proofs.Common.{◌≡◌, ℕ, zero, suc, ◌+◌, ◌<◌, Bool, true, false, cond, ◌&&◌, List, [], ◌∷◌, length, Some, None, Option, sym, refl, ap, ◌∙◌, arith}
 use Rattle.std.proofs.lemmas.Bool.{false≢true, lt-ltb}
-use Rattle.values.specs.Fold.{gather, select, those, count_up, is_in}
+use Rattle.values.specs.Fold.{gather, select, those, count_up}
 use Rattle.geography.specs.declared.region_set.RegionSet.{RegionSet}
 use Rattle.geography.specs.RegionSet.{has, Holds, empty}
 use Rattle.geography.proofs.Bitwise.{has_none}

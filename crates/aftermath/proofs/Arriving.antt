@@ -1,5 +1,5 @@
 -- Who came where, from a table filled from the back: who is dislodged, from where, and which regions were contested. Assumes nothing.
-use Rattle.std.proofs.Common.{◌≡◌, ℕ, zero, suc, ◌+◌, ◌<◌, ◌≤◌, Bool, true, false, cond, not, ◌&&◌, ◌||◌, eqb, ltb, leb, List, [], ◌∷◌, map, length, get_or, drop, set, Some, None, sym, refl, ap, ◌∙◌, ⊎_elim, arith}
+use Rattle.std.proofs.Common.{◌≡◌, ℕ, zero, suc, ◌+◌, ◌<◌, ◌≤◌, Bool, true, false, cond, ◌&&◌, ◌||◌, eqb, ltb, leb, List, [], ◌∷◌, length, get_or, drop, set, Some, None, sym, refl, ap, ◌∙◌, ⊎_elim, arith}
 use Rattle.std.proofs.lemmas.List.{drop_more, drop_all, get_or-map}
 use Rattle.std.proofs.lemmas.Bool.{cases_Bool, eqb-true, eq-eqb, ne_eqb, and_right}
 use Rattle.values.specs.Fold.{gather, any, select, count_up, those, is_in}
@@ -10,7 +10,7 @@ use Rattle.board.specs.Board.{Board}
 use Rattle.board.specs.declared.order.Order.{Order}
 use Rattle.board.specs.Order.{goes_to, is_move, is_convoyed, aim}
 use Rattle.assignment.specs.declared.resolution.Resolution.{Resolution}
-use Rattle.assignment.specs.Assignment.{nobody, entered, dislodged}
+use Rattle.assignment.specs.Assignment.{nobody, entered}
 use Rattle.paths.specs.Paths.{path}
 use Rattle.game.specs.AfterMoves.{came, is_dislodged, attacked_from, bounced, contested}
 use Rattle.aftermath.specs.declared.after_moves.Arrival.{Arrival}

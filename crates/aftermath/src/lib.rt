@@ -1,4 +1,6 @@
 // What moves leave behind: who stands, who is dislodged, what is contested, and who owns the centres.
+#![tactic(auto)]
+
 pub mod after_moves;
 pub mod owners;
 

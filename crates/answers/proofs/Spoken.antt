@@ -1,5 +1,5 @@
 -- The parts of an answer, one behind the other, are the answer; and answers line by line are all of them. Assumes nothing.
-use Rattle.std.proofs.Common.{◌≡◌, ℕ, Bool, true, false, cond, List, [], ◌∷◌, ◌++◌, Some, None, codes, sym, refl, ap, ◌∙◌, append_assoc, append-nil}
+use Rattle.std.proofs.Common.{◌≡◌, ℕ, Bool, true, false, cond, List, [], ◌∷◌, ◌++◌, Some, codes, sym, ap, ◌∙◌, append_assoc, append-nil}
 use Rattle.game.specs.Game.{is_moves}
 use Rattle.lines.specs.declared.call.Key.{Key}
 use Rattle.lines.specs.Calls.{call_in}

@@ -1,7 +1,7 @@
 -- A table of the first in each region, and the words that are made from it. Assumes nothing.
 use Rattle.std.proofs.Common.{◌≡◌, ℕ, ◌+◌, ◌<◌, ◌≤◌, cond, List, ◌∷◌, length, get_or, drop, set, replicate, Some, None, Option, sym, refl, ap, ◌∙◌, arith}
 use Rattle.std.proofs.lemmas.Bool.{eq-eqb, ne_eqb}
-use Rattle.values.specs.Fold.{gather, find}
+use Rattle.values.specs.Fold.{gather}
 use Rattle.tables.proofs.Regions.{region_at, region_start, region_write}
 use Rattle.answers.specs.Words.{by_region, first_at, Tabled, words_if, in_order}
 use Rattle.answers.proofs.InOrder.{same_words}

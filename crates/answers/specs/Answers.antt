@@ -1,5 +1,5 @@
 -- What is answered to a line, and what stands afterwards. Assumes nothing.
-use Rattle.std.specs.Prelude.{ℕ, Bool, cond, List, [], ◌∷◌, ◌++◌, length, Some, None, vec_items, codes, Option}
+use Rattle.std.specs.Prelude.{ℕ, cond, List, [], ◌∷◌, ◌++◌, length, Some, None, vec_items, codes, Option}
 use Rattle.board.specs.Board.{Board}
 use Rattle.deciding.specs.declared.report.Report.{Report}
 use Rattle.game.specs.Game.{Game, is_moves}

@@ -1,4 +1,6 @@
 // What the referee answers to calls in lines.
+#![tactic(auto)]
+
 pub mod answering;
 pub mod games;
 pub mod ordered;

@@ -1,8 +1,8 @@
 -- An assignment: units with their orders and what is decided of each. Who stands where, and who is dislodged. Assumes nothing.
-use Rattle.std.specs.Prelude.{ℕ, Bool, false, cond, List, Option, nat_eq}
+use Rattle.std.specs.Prelude.{ℕ, false, cond, List, Option, nat_eq}
 use Rattle.values.specs.Fold.{gather, find}
 use Rattle.values.specs.declared.tri.Tri.{Tri}
-use Rattle.values.specs.declared.tri.Tri.TheVariants.{No, Open, Yes}
+use Rattle.values.specs.declared.tri.Tri.TheVariants.{No}
 use Rattle.values.specs.Tri.{not_tri, and_tri, or_tri}
 use Rattle.board.specs.Order.{goes_to, is_move}
 use Rattle.board.specs.declared.order.Order.TheVariants.{Hold}

@@ -1,4 +1,6 @@
 // Units with their orders, what is decided of each so far, and the tables by which one finds them.
+#![tactic(auto)]
+
 pub mod dislodge;
 pub mod lookup;
 pub mod resolution;

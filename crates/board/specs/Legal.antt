@@ -1,5 +1,5 @@
 -- Which orders a unit can carry out; any other is a hold. Assumes nothing.
-use Rattle.std.specs.Prelude.{ℕ, Bool, true, false, cond, not, ◌&&◌, ◌==◌}
+use Rattle.std.specs.Prelude.{ℕ, Bool, true, cond, not, ◌&&◌, ◌==◌}
 use Rattle.geography.specs.Links.{linked}
 use Rattle.board.specs.declared.order.Order.{Order}
 use Rattle.board.specs.declared.order.Order.TheVariants.{Hold, Move, SupportHold, SupportMove, Convoy}

@@ -1,4 +1,6 @@
 // The board, the units on it, and the orders that a unit can carry out.
+#![tactic(auto)]
+
 pub mod atlas;
 pub mod legal;
 pub mod order;

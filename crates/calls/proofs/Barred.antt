@@ -1,8 +1,8 @@
 -- Barred regions from the last word to the first; and the regions of a set are those of its words. Assumes nothing.
-use Rattle.std.proofs.Common.{◌≡◌, ℕ, zero, suc, ◌+◌, ◌<◌, ◌≤◌, Bool, true, false, cond, ◌&&◌, ◌||◌, eqb, ltb, List, [], ◌∷◌, length, get_or, drop, sym, refl, ap, ◌∙◌, arith}
+use Rattle.std.proofs.Common.{◌≡◌, ℕ, ◌+◌, ◌<◌, ◌≤◌, Bool, true, false, cond, ◌&&◌, ◌||◌, eqb, ltb, List, [], ◌∷◌, length, get_or, drop, refl, ap, ◌∙◌}
 use Rattle.std.proofs.lemmas.List.{drop_more, drop_all}
 use Rattle.std.proofs.lemmas.Bool.{and_from, and_left}
-use Rattle.values.specs.Fold.{all, any, is_in, gather, select, count_up, those}
+use Rattle.values.specs.Fold.{all, any, gather, select}
 use Rattle.geography.specs.declared.region_set.RegionSet.{RegionSet}
 use Rattle.geography.specs.RegionSet.{has, empty, Holds}
 use Rattle.geography.proofs.Bitwise.{has_none}

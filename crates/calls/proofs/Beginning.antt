@@ -1,19 +1,18 @@
 -- The parts that the code cuts give the board and the game of the words, and so the verdict. Assumes nothing.
-use Rattle.std.proofs.Common.{◌≡◌, ℕ, ◌*◌, ◌≤◌, Bool, true, false, cond, not, ◌&&◌, ltb, leb, List, length, drop, Ok, Err, Result, sym, refl, ap, ◌∙◌}
+use Rattle.std.proofs.Common.{◌≡◌, ℕ, Bool, true, false, cond, not, ◌&&◌, ltb, leb, List, drop, Ok, Err, Result, sym, refl, ap, ◌∙◌}
 use Rattle.std.proofs.lemmas.Bool.{and_from, and_left, and_right}
 use Rattle.board.specs.Board.{Board, good_board, powers}
 use Rattle.game.specs.Lawful.{lawful}
 use Rattle.position.specs.declared.position.Position.{Position}
 use Rattle.position.specs.Position.{board_of, game_of}
 use Rattle.calls.specs.declared.sections.Sections.{Sections}
-use Rattle.calls.specs.declared.verdict.Verdict.{Verdict}
-use Rattle.calls.specs.declared.verdict.Verdict.TheVariants.{Accepted, Misfit, BadText, Unlawful}
+use Rattle.calls.specs.declared.verdict.Verdict.TheVariants.{Accepted, Misfit, Unlawful}
 use Rattle.calls.specs.declared.fault.Fault.{Fault}
 use Rattle.calls.specs.declared.fault.Fault.TheVariants.{Refused, NoMemory}
 use Rattle.calls.specs.Verdict.{is_accepted}
 use Rattle.calls.specs.Words.{at, every_entry}
 use Rattle.calls.specs.Read.{ReadOr, RefusedUnless, RefusedBy, Answered}
-use Rattle.calls.specs.Begin.{region_count, unit_count, out_count, barred_count, region_words, unit_words, owner_words, phase_words, out_words, barred_words, good_region, good_unit, board_in, game_in, words_fit, words_mean, begin_verdict}
+use Rattle.calls.specs.Begin.{region_count, unit_count, out_count, barred_count, region_words, unit_words, owner_words, phase_words, out_words, barred_words, good_region, good_unit, board_in, game_in, words_mean, begin_verdict}
 use Rattle.calls.specs.Sections.{Cut}
 use Rattle.calls.specs.Strict.{Roomy, board_parts, board_good, game_parts, game_means, game_good}
 use Rattle.calls.proofs.Fits.{halves, limits, rooms, out_room, barred_all}

@@ -1,7 +1,7 @@
 -- The game that the code reads from its parts is the one that they give, and an entry that it can't make is in no lawful game. Assumes nothing.
-use Rattle.std.proofs.Common.{◌≡◌, ℕ, Bool, true, false, ◌&&◌, ◌||◌, eqb, ltb, leb, List, [], ◌∷◌, map, length, vec_items, Option, sym, refl, ap, ◌∙◌}
-use Rattle.std.proofs.lemmas.Bool.{and_parts, and_from, and_left, and_right}
-use Rattle.values.specs.Fold.{all, distinct, those, is_in, count_up}
+use Rattle.std.proofs.Common.{◌≡◌, ℕ, Bool, true, false, ◌&&◌, ltb, leb, List, [], ◌∷◌, map, length, Option, sym, refl, ap, ◌∙◌}
+use Rattle.std.proofs.lemmas.Bool.{and_parts, and_from, and_right}
+use Rattle.values.specs.Fold.{all, distinct, is_in, count_up}
 use Rattle.geography.specs.declared.region_set.RegionSet.{RegionSet}
 use Rattle.geography.specs.RegionSet.{has, Holds}
 use Rattle.board.specs.declared.unit.Unit.{Unit}
@@ -9,10 +9,10 @@ use Rattle.board.specs.Board.{Board, on_board, can_stand, stands, powers}
 use Rattle.game.specs.declared.phase.Phase.{Phase}
 use Rattle.game.specs.declared.phase.Dislodged.{Dislodged}
 use Rattle.game.specs.Game.{Game}
-use Rattle.game.specs.Lawful.{lawful, places, units_in, from_board, good_owners}
+use Rattle.game.specs.Lawful.{lawful, places, units_in}
 use Rattle.position.specs.Tables.{game_from}
 use Rattle.calls.specs.declared.sections.Sections.{Sections}
-use Rattle.calls.specs.Words.{at, entries, every_entry, optional}
+use Rattle.calls.specs.Words.{at, every_entry}
 use Rattle.calls.specs.Begin.{unit_in, good_unit, dislodged_in, phase_in}
 use Rattle.calls.specs.Strict.{unit_on, out_on, Roomy, game_parts, game_means, game_good}
 use Rattle.calls.proofs.Strict.{fails_from, every_from, every_weaker}

@@ -1,15 +1,15 @@
 -- An entry that the code can't make is not in a good board or a lawful game. Assumes nothing.
-use Rattle.std.proofs.Common.{◌≡◌, ℕ, zero, suc, ◌≤◌, Bool, true, false, not, ◌&&◌, eqb, ltb, leb, List, [], ◌∷◌, map, length, drop, sym, refl, ap, ◌∙◌, ⊎_elim, arith}
-use Rattle.std.proofs.lemmas.Bool.{and_parts, and_from, and_left, and_right, both_ways, cases_Bool}
+use Rattle.std.proofs.Common.{◌≡◌, ℕ, zero, suc, Bool, true, false, not, eqb, ltb, leb, List, length, drop, refl, ap}
+use Rattle.std.proofs.lemmas.Bool.{and_parts, and_from, and_left, and_right, both_ways}
 use Rattle.values.specs.Fold.{all}
-use Rattle.board.specs.Board.{Board, on_board, can_stand, stands, good_edge, good_board, is_power, powers}
+use Rattle.board.specs.Board.{Board, on_board, can_stand, good_edge, good_board, is_power}
 use Rattle.calls.specs.declared.verdict.Verdict.{Verdict}
 use Rattle.calls.specs.declared.fault.Fault.{Fault}
 use Rattle.calls.specs.declared.fault.Fault.TheVariants.{Refused, NoMemory}
 use Rattle.calls.specs.Words.{at, entries, every_entry}
 use Rattle.calls.specs.Read.{RefusedUnless}
-use Rattle.calls.specs.Begin.{edge_in, unit_in, good_unit}
-use Rattle.calls.specs.Strict.{ends_on, unit_on, out_on}
+use Rattle.calls.specs.Begin.{edge_in}
+use Rattle.calls.specs.Strict.{ends_on}
 
 -- a refusal handed on
 pub handed_on : (part whole : Bool) (v : Verdict) (e : Fault) → (part ≡ false → whole ≡ false) → RefusedUnless part v e → RefusedUnless whole v e

@@ -1,5 +1,5 @@
 -- A board and a game from words, and the verdict on them. Assumes nothing.
-use Rattle.std.specs.Prelude.{ℕ, ◌+◌, ◌*◌, Bool, true, false, cond, not, ◌&&◌, ltb, leb, List, length, drop, ◌==◌, nat_le, nat_lt}
+use Rattle.std.specs.Prelude.{ℕ, ◌+◌, ◌*◌, Bool, cond, not, ◌&&◌, ltb, leb, List, length, drop, ◌==◌, nat_le, nat_lt}
 use Rattle.values.specs.Fold.{those, is_in}
 use Rattle.geography.specs.declared.links.Edge.{Edge}
 use Rattle.board.specs.declared.region.Kind.{Kind}
@@ -13,7 +13,7 @@ use Rattle.game.specs.declared.phase.Dislodged.{Dislodged}
 use Rattle.game.specs.Game.{Game}
 use Rattle.game.specs.Lawful.{lawful}
 use Rattle.calls.specs.declared.verdict.Verdict.{Verdict}
-use Rattle.calls.specs.declared.verdict.Verdict.TheVariants.{Accepted, Misfit, BadText, Unlawful}
+use Rattle.calls.specs.declared.verdict.Verdict.TheVariants.{Accepted, Misfit, Unlawful}
 use Rattle.calls.specs.Verdict.{is_accepted}
 use Rattle.calls.specs.Words.{at, entries, every_entry, is_one, optional}
 

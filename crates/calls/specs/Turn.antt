@@ -11,7 +11,7 @@ use Rattle.game.specs.Game.{Game, is_moves}
 use Rattle.game.specs.Texts.{ordered}
 use Rattle.game.specs.Turn.{turn}
 use Rattle.calls.specs.declared.verdict.Verdict.{Verdict}
-use Rattle.calls.specs.declared.verdict.Verdict.TheVariants.{Accepted, Misfit, BadText, Unlawful}
+use Rattle.calls.specs.declared.verdict.Verdict.TheVariants.{Accepted, Misfit, BadText}
 use Rattle.calls.specs.Verdict.{is_accepted}
 use Rattle.calls.specs.Words.{at, entries, every_entry}
 

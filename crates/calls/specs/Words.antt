@@ -1,5 +1,5 @@
 -- Lists of words read by places, and small values as words. Assumes nothing.
-use Rattle.std.specs.Prelude.{ℕ, zero, suc, ◌-◌, Bool, true, false, cond, ◌&&◌, List, [], ◌∷◌, drop, Some, None, Option, ◌==◌, slice_index}
+use Rattle.std.specs.Prelude.{ℕ, zero, suc, ◌-◌, Bool, true, cond, ◌&&◌, List, [], ◌∷◌, drop, Some, None, Option, ◌==◌, slice_index}
 
 abbrev pub at : List ℕ → ℕ → ℕ
 at ws i = slice_index ws i

@@ -1,4 +1,6 @@
 // The referee over words: what begins a game, what is written for a phase, and the verdict on each.
+#![tactic(auto)]
+
 pub mod barred_words;
 pub mod begin;
 pub mod board_words;

@@ -74,18 +74,18 @@ pub record AllCases : Type 0 where
   pub head_to_head_loser_prevents_nobody : HeadToHeadLoserPreventsNobody
   pub ring_closes : RingCloses
   pub ring_blocked : RingBlocked
-  pub own_power-support_does_not_dislodge : OwnPowerSupportDoesNotDislodge
-  pub third_power-support_dislodges : ThirdPowerSupportDislodges
+  pub own_power_support_does_not_dislodge : OwnPowerSupportDoesNotDislodge
+  pub third_power_support_dislodges : ThirdPowerSupportDislodges
   pub own_unit_stays : OwnUnitStays
   pub support_not_cut_from_its_target : SupportNotCutFromItsTarget
-  pub support-cut_from_elsewhere : SupportCutFromElsewhere
-  pub cut-support-counts-nothing : CutSupportCountsNothing
-  pub dislodged_unit_supports-nobody : DislodgedUnitSupportsNobody
-  pub own_power-cuts-nothing : OwnPowerCutsNothing
+  pub support_cut_from_elsewhere : SupportCutFromElsewhere
+  pub cut_support_counts_nothing : CutSupportCountsNothing
+  pub dislodged_unit_supports_nobody : DislodgedUnitSupportsNobody
+  pub own_power_cuts_nothing : OwnPowerCutsNothing
   pub supported_hold_stands : SupportedHoldStands
   pub mover_has_no_hold_support : MoverHasNoHoldSupport
   pub impossible_orders_hold : ImpossibleOrdersHold
-  pub idle_support-succeeds : IdleSupportSucceeds
+  pub idle_support_succeeds : IdleSupportSucceeds
   pub one_text_counts : OneTextCounts
   -- over water
   pub two_seas_good : TwoSeasGood
@@ -100,10 +100,10 @@ pub record AllCases : Type 0 where
   pub swap_over_water : SwapOverWater
   pub attack_over_water_has_no_region : AttackOverWaterHasNoRegion
   -- how many ways fit
-  pub bounce-fits_one_way : BounceFitsOneWay
-  pub ring-fits_two_ways : RingFitsTwoWays
-  pub crossing-fits_two_ways : CrossingFitsTwoWays
-  pub saved_carrier-fits_no_way : SavedCarrierFitsNoWay
+  pub bounce_fits_one_way : BounceFitsOneWay
+  pub ring_fits_two_ways : RingFitsTwoWays
+  pub crossing_fits_two_ways : CrossingFitsTwoWays
+  pub saved_carrier_fits_no_way : SavedCarrierFitsNoWay
   -- retreats
   pub head_to_head_played : HeadToHeadPlayed
   pub retreat_to_empty_region_only : RetreatToEmptyRegionOnly
@@ -125,7 +125,7 @@ pub record AllCases : Type 0 where
   pub owners_kept_in_spring : OwnersKeptInSpring
   pub builds_in_homes : BuildsInHomes
   pub builds_no_more_than_lacking : BuildsNoMoreThanLacking
-  pub builds-nowhere_else : BuildsNowhereElse
+  pub builds_nowhere_else : BuildsNowhereElse
   pub loss_frees_home : LossFreesHome
   pub phases_follow : PhasesFollow
   pub winter_games_lawful : WinterGamesLawful

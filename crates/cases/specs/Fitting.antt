@@ -1,5 +1,5 @@
 -- Worked cases counted: how many ways to answer all orders fit together, before the paradox rule and circular movement choose. Assumes nothing.
-use Rattle.std.specs.Prelude.{◌≡◌, ℕ, Bool, true, false, cond, ◌||◌, List, [], ◌∷◌, ◌++◌, map}
+use Rattle.std.specs.Prelude.{◌≡◌, ℕ, Bool, cond, ◌||◌, List, [], ◌∷◌, ◌++◌, map}
 use Rattle.values.specs.Fold.{all, number}
 use Rattle.values.specs.declared.tri.Tri.{Tri}
 use Rattle.values.specs.declared.tri.Tri.TheVariants.{No, Open, Yes}

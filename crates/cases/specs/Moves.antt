@@ -1,34 +1,12 @@
 -- Worked cases on land: bounces, support, head-to-head, circular movement, own power, cut support, orders as played. Assumes nothing.
 use Rattle.std.specs.Prelude.{◌≡◌, true, List, [], ◌∷◌}
-use Rattle.board.specs.declared.order.Order.{Order}
-use Rattle.board.specs.declared.order.Order.TheVariants.{Hold, Move, SupportHold, SupportMove, Convoy}
+use Rattle.board.specs.declared.order.Order.TheVariants.{Hold, SupportHold, SupportMove, Convoy}
 use Rattle.board.specs.Board.{Board, good_board}
 use Rattle.deciding.specs.declared.report.Report.{Report}
-use Rattle.deciding.specs.Outcome.{Ordered, reports}
+use Rattle.deciding.specs.Outcome.{reports}
 use Rattle.game.specs.declared.text.Text.TheVariants.{Build}
 use Rattle.game.specs.Texts.{ordered}
-use Rattle.cases.specs.Position.{
-  coast,
-  edge,
-  power_a,
-  power_b,
-  power_c,
-  power_d,
-  army,
-  goes,
-  crosses,
-  writes,
-  orders,
-  succeeds,
-  fails,
-  stays,
-  falls,
-  circles,
-  Told,
-  Bars,
-  Dislodges,
-  out_from,
-}
+use Rattle.cases.specs.Position.{coast, edge, power_a, power_b, power_c, power_d, army, goes, writes, orders, succeeds, fails, stays, falls, circles, Told, Bars, Dislodges, out_from}
 
 -- six coasts, all joined for armies
 abbrev pub six_coasts : Board

@@ -1,5 +1,5 @@
 -- Short words for a position, and what is asked of it. Assumes nothing.
-use Rattle.std.specs.Prelude.{◌≡◌, ℕ, Bool, true, false, List, map, Some, None, Option}
+use Rattle.std.specs.Prelude.{◌≡◌, ℕ, Bool, true, false, List, map, Some, None}
 use Rattle.geography.specs.declared.links.Edge.{Edge}
 use Rattle.board.specs.declared.order.Order.{Order}
 use Rattle.board.specs.declared.order.Order.TheVariants.{Move}

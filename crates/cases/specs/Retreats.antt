@@ -1,5 +1,5 @@
 -- Worked cases of retreats: the game after the moves, where a unit may go, who arrives, who is gone. Assumes nothing.
-use Rattle.std.specs.Prelude.{◌≡◌, ℕ, Bool, true, false, List, [], ◌∷◌, Some, None, Option}
+use Rattle.std.specs.Prelude.{◌≡◌, ℕ, true, false, List, [], ◌∷◌, Some, None, Option}
 use Rattle.values.specs.Fold.{all}
 use Rattle.board.specs.declared.order.Order.TheVariants.{Hold, SupportMove}
 use Rattle.board.specs.declared.unit.Unit.{Unit}

@@ -1,6 +1,5 @@
 -- Worked cases over water: convoys, the paradox rule, attacks over water. Assumes nothing.
 use Rattle.std.specs.Prelude.{◌≡◌, true, List, [], ◌∷◌, ◌++◌}
-use Rattle.board.specs.declared.order.Order.{Order}
 use Rattle.board.specs.declared.order.Order.TheVariants.{Hold, SupportHold, SupportMove, Convoy}
 use Rattle.board.specs.Board.{Board, good_board}
 use Rattle.deciding.specs.declared.report.Report.{Report}

@@ -1,8 +1,7 @@
 -- What rounds leave open: the paradox rule and circular movement; the outcome, and what is told of it. Assumes nothing.
 use Rattle.std.specs.Prelude.{Bool, false, cond, ◌&&◌, ◌||◌, List, map}
 use Rattle.values.specs.Fold.{any}
-use Rattle.values.specs.declared.tri.Tri.{Tri}
-use Rattle.values.specs.declared.tri.Tri.TheVariants.{No, Open, Yes}
+use Rattle.values.specs.declared.tri.Tri.TheVariants.{Open, Yes}
 use Rattle.values.specs.Tri.{is_yes, is_open}
 use Rattle.board.specs.Board.{Board}
 use Rattle.board.specs.declared.order.Order.{Order}

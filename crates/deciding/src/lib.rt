@@ -1,4 +1,6 @@
 // What becomes of orders that all count at once: rounds, the paradox rule, circular movement.
+#![tactic(auto)]
+
 pub mod adjudication;
 pub mod paradox;
 pub mod report;

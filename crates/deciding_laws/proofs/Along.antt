@@ -13,7 +13,6 @@ use Rattle.board.specs.Order.{goes_to, is_move, is_support}
 use Rattle.assignment.specs.declared.resolution.Resolution.{Resolution}
 use Rattle.assignment.specs.Assignment.{who, entered, dislodged}
 use Rattle.strength.specs.Strength.{support}
-use Rattle.deciding_laws.specs.Answers.{start}
 use Rattle.deciding_laws.specs.Assignments.{acts, Agrees, both_end, both_go_on}
 use Rattle.deciding_laws.proofs.Information.{Below, same, below_decided, not_monotone, and_monotone, or_monotone, if_below, Within, within_exactly, sum_monotone, counted_monotone}
 

@@ -1,5 +1,5 @@
 -- What is answered to orders, and what is promised of it in the words of the plain rules. Assumes nothing.
-use Rattle.std.specs.Prelude.{◌≡◌, ℕ, Bool, true, false, cond, List, [], ◌∷◌, map, nat_eq}
+use Rattle.std.specs.Prelude.{◌≡◌, true, false, cond, List, [], ◌∷◌, map, nat_eq}
 use mathlib.Core.List.{Memᴰ}
 use Rattle.values.specs.Fold.{select, distinct}
 use Rattle.values.specs.declared.tri.Tri.TheVariants.{Open}

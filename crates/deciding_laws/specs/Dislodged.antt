@@ -1,5 +1,5 @@
 -- Who is dislodged, and by whom. Assumes nothing.
-use Rattle.std.specs.Prelude.{◌≡◌, ℕ, Bool, true, false, ◌&&◌, List, [], ◌∷◌, nat_eq}
+use Rattle.std.specs.Prelude.{◌≡◌, ℕ, Bool, false, ◌&&◌, List, [], ◌∷◌, nat_eq}
 use mathlib.Core.List.{Memᴰ}
 use Rattle.values.specs.Fold.{select}
 use Rattle.values.specs.declared.tri.Tri.TheVariants.{Yes}

@@ -1,5 +1,5 @@
 -- Where everything is yes or no, the rules with spans say just what the plain rules say. Assumes nothing.
-use Rattle.std.specs.Prelude.{◌≡◌, ℕ, Bool, true, List, map}
+use Rattle.std.specs.Prelude.{◌≡◌, ℕ, true, List, map}
 use Rattle.values.specs.declared.tri.Tri.{Tri}
 use Rattle.values.specs.declared.tri.Tri.TheVariants.{No, Yes}
 use Rattle.values.specs.declared.span.Span.{Span}

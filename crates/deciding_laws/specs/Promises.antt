@@ -1,5 +1,5 @@
 -- All that is promised of deciding, in one record. Assumes nothing.
-use Rattle.std.specs.Prelude.{◌≡◌, Bool, true, false, List, map}
+use Rattle.std.specs.Prelude.{◌≡◌, true, false, List, map}
 use mathlib.Core.List.{Memᴰ}
 use Rattle.board.specs.Board.{Board}
 use Rattle.board.specs.Order.{is_move}

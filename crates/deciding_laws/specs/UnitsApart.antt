@@ -1,5 +1,5 @@
 -- Where units stand after the moves. Assumes nothing.
-use Rattle.std.specs.Prelude.{◌≡◌, ℕ, Bool, true, false, cond, not, ◌&&◌, List}
+use Rattle.std.specs.Prelude.{◌≡◌, ℕ, Bool, true, cond, not, ◌&&◌, List}
 use mathlib.Core.List.{Memᴰ}
 use Rattle.values.specs.Fold.{pick, distinct}
 use Rattle.values.specs.Tri.{is_yes}

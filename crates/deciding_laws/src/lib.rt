@@ -1,4 +1,6 @@
 // Theorems about deciding, each named in the contract of a function of its own.
+#![tactic(auto)]
+
 ghost use Rattle.deciding_laws.specs.Consistent.{OutcomeConsistent};
 ghost use Rattle.deciding_laws.specs.Forced.{Forced, ForcedAfterParadox};
 ghost use Rattle.deciding_laws.specs.Dislodged.{DislodgedByOne};

@@ -1,5 +1,5 @@
 -- The game after a phase of moves. Assumes nothing.
-use Rattle.std.specs.Prelude.{ℕ, Bool, true, false, cond, not, ◌&&◌, List, length, Some, None, Option}
+use Rattle.std.specs.Prelude.{ℕ, Bool, cond, not, ◌&&◌, List, length, Some, None, Option}
 use Rattle.values.specs.Fold.{gather, any, pick, those}
 use Rattle.values.specs.Tri.{is_yes, is_no}
 use Rattle.board.specs.Board.{Board}

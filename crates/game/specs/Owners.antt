@@ -1,5 +1,5 @@
 -- Who owns the centres after the autumn's retreats. Assumes nothing.
-use Rattle.std.specs.Prelude.{ℕ, ◌+◌, Bool, cond, List, [], ◌∷◌, Some, None, Option, nat_eq}
+use Rattle.std.specs.Prelude.{ℕ, ◌+◌, cond, List, [], ◌∷◌, Some, None, Option, nat_eq}
 use Rattle.values.specs.Fold.{gather}
 use Rattle.board.specs.declared.region.Region.{Region}
 use Rattle.board.specs.declared.unit.Unit.{Unit}

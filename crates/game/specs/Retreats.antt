@@ -1,5 +1,5 @@
 -- Retreats: one step, to an empty region that isn't barred and isn't where the attack came from. Assumes nothing.
-use Rattle.std.specs.Prelude.{ℕ, Bool, true, false, cond, not, ◌&&◌, List, [], ◌∷◌, ◌++◌, Some, None, Option, ◌==◌, nat_eq}
+use Rattle.std.specs.Prelude.{ℕ, Bool, false, cond, not, ◌&&◌, List, [], ◌∷◌, ◌++◌, Some, None, Option, ◌==◌, nat_eq}
 use Rattle.values.specs.Fold.{any, each, number, is_in}
 use Rattle.board.specs.Board.{Board}
 use Rattle.board.specs.Legal.{steps}

@@ -2,7 +2,7 @@
 use Rattle.std.specs.Prelude.{ℕ, Bool, ◌&&◌, List, map, Some, None, Option, ◌==◌}
 use Rattle.values.specs.Fold.{pick, only}
 use Rattle.board.specs.declared.order.Order.{Order}
-use Rattle.board.specs.declared.order.Order.TheVariants.{Hold, Move, SupportHold, SupportMove, Convoy}
+use Rattle.board.specs.declared.order.Order.TheVariants.{Hold}
 use Rattle.board.specs.declared.unit.Unit.{Unit}
 use Rattle.deciding.specs.Outcome.{Ordered}
 use Rattle.game.specs.declared.text.Text.{Text}

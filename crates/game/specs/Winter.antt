@@ -1,5 +1,5 @@
 -- Winter, power by power: disbands with more units than centres, builds with fewer. Assumes nothing.
-use Rattle.std.specs.Prelude.{ℕ, zero, suc, ◌-◌, Bool, true, false, cond, not, ◌&&◌, List, [], ◌∷◌, ◌++◌, map, length, take, Some, None, Option, ◌==◌, nat_lt, slice_index_or}
+use Rattle.std.specs.Prelude.{ℕ, zero, suc, ◌-◌, Bool, true, false, cond, not, ◌&&◌, List, [], ◌∷◌, ◌++◌, length, take, Some, None, Option, ◌==◌, nat_lt, slice_index_or}
 use Rattle.values.specs.Fold.{any, each, number, select, those, is_in}
 use Rattle.board.specs.Board.{Board, can_stand, region_at, powers}
 use Rattle.board.specs.declared.unit.Unit.{Unit}

@@ -6,7 +6,7 @@ use Rattle.std.proofs.lemmas.List.{drop_more}
 use lib.Pow.{pow-lt}
 use Rattle.std.proofs.lemmas.Nat.{shl-shr, one_shl, shr-shr}
 use Rattle.std.proofs.lemmas.Bool.{cases_order, eq-eqb, ne_eqb, eqb-false, eqb-true, cases_lt, cases_Bool, and_left, and_right, or_from, or_left, or_right, or_parts, or_cases, lt-ltb, le-ltb}
-use Rattle.geography.specs.RegionSet.{bit, has, Holds, empty}
+use Rattle.geography.specs.RegionSet.{bit, has, Holds}
 use Rattle.values.specs.Fold.{any, is_in}
 use Rattle.geography.specs.declared.region_set.RegionSet.{RegionSet}
 

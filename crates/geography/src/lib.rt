@@ -1,4 +1,6 @@
 // Regions by number: sets of them, and the edges that join them.
+#![tactic(auto)]
+
 pub mod links;
 pub mod region_set;
 

@@ -1,5 +1,5 @@
 -- Numbers in decimal, one space apart. Assumes nothing.
-use Rattle.std.specs.Prelude.{ℕ, ◌+◌, ◌-◌, ◌*◌, Bool, cond, ◌&&◌, List, [], ◌∷◌, ◌++◌, Some, None, vec_items, Option, Vec, ◌==◌, nat_le}
+use Rattle.std.specs.Prelude.{ℕ, ◌+◌, ◌-◌, ◌*◌, Bool, cond, ◌&&◌, List, [], ◌∷◌, Some, None, vec_items, Option, Vec, ◌==◌, nat_le}
 use Rattle.lines.specs.declared.numbers.Step.{Step}
 use Rattle.lines.specs.declared.numbers.Step.TheVariants.{Grows, Ends, Bad}
 

@@ -1,4 +1,6 @@
 // Calls as lines of text: a key and numbers, one space apart.
+#![tactic(auto)]
+
 pub mod call;
 pub mod numbers;
 pub mod print;

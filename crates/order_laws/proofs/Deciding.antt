@@ -14,7 +14,6 @@ use Rattle.board.specs.declared.unit.Unit.{Unit}
 use Rattle.board.specs.Order.{is_move, is_support}
 use Rattle.board.specs.Legal.{steps, crosses, apart, legal}
 use Rattle.assignment.specs.declared.resolution.Resolution.{Resolution}
-use Rattle.assignment.specs.Assignment.{dislodged}
 use Rattle.deciding.specs.declared.report.Report.{Report}
 use Rattle.deciding.specs.Rounds.{again, round, rounds, decided}
 use Rattle.deciding.specs.Outcome.{unsettled, paradox, strand_one, strand, settle, in_ring, close_one, Ordered, fresh_one, fresh, settled, outcome, report_one, reports}

@@ -1,4 +1,6 @@
 // That no order of lists matters: of edges, of units and texts, of those dislodged and barred regions.
+#![tactic(auto)]
+
 ghost use Rattle.order_laws.specs.Edges.{AnyDrawing};
 ghost use Rattle.order_laws.specs.Deciding.{AnyOrderOfOrders};
 ghost use Rattle.order_laws.specs.Turns.{AnyOrderByRegion, AlikeStand, AnyOrder, AnyOrderOfMany};

@@ -1,4 +1,6 @@
 // Paths over water: the fleets that carry an army, and how far they reach.
+#![tactic(auto)]
+
 pub mod flood;
 pub mod table;
 

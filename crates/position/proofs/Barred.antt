@@ -1,5 +1,5 @@
 -- Walking the regions upwards meets just those of a set. Assumes nothing.
-use Rattle.std.proofs.Common.{◌≡◌, ℕ, suc, ◌+◌, ◌-◌, ◌<◌, ◌≤◌, Bool, true, false, cond, List, [], ◌∷◌, length, refl, ap, arith}
+use Rattle.std.proofs.Common.{◌≡◌, ℕ, suc, ◌+◌, ◌-◌, ◌<◌, ◌≤◌, Bool, cond, [], ◌∷◌, ap, arith}
 use Rattle.values.specs.Fold.{gather, select, count_up}
 
 one_less : (n i : ℕ) → i < n → n - i ≡ suc (n - (i + 1))

@@ -1,10 +1,10 @@
 -- The empty board is good, and the empty game lawful on it. Assumes nothing.
-use Rattle.std.proofs.Common.{◌≡◌, ℕ, Bool, true, List, [], refl, ap, arith}
+use Rattle.std.proofs.Common.{◌≡◌, true, List, [], refl, arith}
 use Rattle.values.specs.Fold.{all, gather, count_up, distinct}
 use Rattle.geography.specs.declared.links.Edge.{Edge}
 use Rattle.geography.specs.RegionSet.{empty}
 use Rattle.geography.specs.Links.{Ends}
-use Rattle.board.specs.Board.{Board, good_board}
+use Rattle.board.specs.Board.{good_board}
 use Rattle.game.specs.declared.phase.Phase.TheVariants.{SpringMoves}
 use Rattle.game.specs.Lawful.{lawful, good_owners}
 use Rattle.position.specs.Tables.{board_from, game_from}

@@ -1,6 +1,5 @@
 -- Barred regions of a set are on the board; lawful as the tests that the code makes. Assumes nothing.
-use Rattle.std.proofs.Common.{◌≡◌, ℕ, zero, suc, ◌+◌, ◌<◌, ◌≤◌, Bool, true, false, cond, ◌&&◌, ◌||◌, eqb, ltb, List, [], ◌∷◌, map, length, Option, sym, refl, ap, ◌∙◌, arith}
-use Rattle.std.proofs.lemmas.List.{map-id}
+use Rattle.std.proofs.Common.{◌≡◌, ℕ, zero, suc, ◌+◌, ◌≤◌, Bool, true, false, cond, ◌&&◌, ◌||◌, eqb, ltb, List, ◌∷◌, length, Option, refl, arith}
 use Rattle.std.proofs.lemmas.Bool.{and_from, lt-ltb}
 use Rattle.values.specs.Fold.{all, gather, select, count_up, those, distinct}
 use Rattle.geography.specs.declared.region_set.RegionSet.{RegionSet}
@@ -9,7 +8,7 @@ use Rattle.board.specs.declared.unit.Unit.{Unit}
 use Rattle.board.specs.Board.{Board, stands, on_board}
 use Rattle.game.specs.declared.phase.Phase.{Phase}
 use Rattle.game.specs.declared.phase.Dislodged.{Dislodged}
-use Rattle.game.specs.Game.{Game, is_retreats}
+use Rattle.game.specs.Game.{is_retreats}
 use Rattle.game.specs.Lawful.{places, units_in, from_board, good_owners, lawful}
 use Rattle.position.specs.Tables.{game_from, placed_on}
 

@@ -1,4 +1,6 @@
 // A lawful game on a good board, as the code holds it.
+#![tactic(auto)]
+
 pub mod atlas;
 pub mod lawful;
 pub mod piece;

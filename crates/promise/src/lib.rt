@@ -1,4 +1,6 @@
 // The main promise: all that is shown of the referee, in one statement.
+#![tactic(auto)]
+
 ghost use Rattle.promise.specs.Promise.{MainPromise, TurnKept};
 
 // Of every good board, every lawful game, anything written and any calls.

@@ -1,4 +1,6 @@
 // Plays phase after phase until the orders are used up, and prints each game.
+#![tactic(auto)]
+
 use session::record;
 use std::io::Write;
 use std::{env, fs, io};

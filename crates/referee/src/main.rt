@@ -1,4 +1,6 @@
 // Plays one phase, and prints what became of it and the next game.
+#![tactic(auto)]
+
 use session::referee;
 use std::io::Write;
 use std::{env, fs, io};

@@ -1,4 +1,6 @@
 // Retreats of dislodged units.
+#![tactic(auto)]
+
 pub mod retreats;
 
 pub use retreats::{goal_counts, is_just, retreat_goals, units_after_retreats, with_units};

@@ -1,4 +1,6 @@
 // Plays a game's phases up to and with the first winter, and prints each.
+#![tactic(auto)]
+
 use session::season;
 use std::io::Write;
 use std::{env, fs, io};

@@ -1,9 +1,9 @@
 -- The blocks of orders taken one by one: what the next block adds, and the end.
-use Rattle.std.proofs.Common.{◌≡◌, ℕ, zero, suc, ◌+◌, ◌-◌, ◌<◌, ◌≤◌, Bool, true, false, cond, eqb, List, [], ◌∷◌, ◌++◌, length, get_or, drop, vec_items, sym, refl, ap, ◌∙◌, append_assoc, append-nil, arith}
+use Rattle.std.proofs.Common.{◌≡◌, ℕ, suc, ◌+◌, ◌<◌, ◌≤◌, true, false, cond, eqb, List, [], ◌∷◌, ◌++◌, length, get_or, drop, vec_items, sym, ap, ◌∙◌, append_assoc, append-nil}
 use Rattle.std.proofs.lemmas.List.{drop_more, drop_all, get_or_read}
 use Rattle.text.specs.declared.orders_file.Block.{Block}
 use Rattle.text.specs.OrdersFile.{Texts, texts_of}
-use Rattle.session.specs.Session.{distance, next_number, block_phase, is_due, next_texts, blocks_behind, turns_due, phases_until}
+use Rattle.session.specs.Session.{distance, next_number, block_phase, turns_due, phases_until}
 use Rattle.session.specs.Tables.{blocks_of}
 
 module _ (first k : ℕ) (blocks : List Block) (i : ℕ) where

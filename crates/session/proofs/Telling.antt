@@ -1,5 +1,5 @@
 -- What is told of a phase before the position changes and after it is all that is told of it.
-use Rattle.std.proofs.Common.{◌≡◌, ℕ, Bool, true, false, cond, List, [], ◌∷◌, ◌++◌, length, IfOk, Some, None, Option, Result, sym, refl, ap, ◌∙◌, append_assoc, append-nil}
+use Rattle.std.proofs.Common.{◌≡◌, ℕ, Bool, true, false, cond, List, ◌++◌, length, IfOk, Some, None, Option, Result, sym, refl, ap, ◌∙◌, append_assoc, append-nil}
 use Rattle.show.proofs.Lines.{made_then}
 use Rattle.deciding.specs.declared.report.Report.{Report}
 use Rattle.board.specs.Board.{Board}

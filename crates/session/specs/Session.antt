@@ -12,8 +12,8 @@ use Rattle.calls.specs.Verdict.{number, is_accepted}
 use Rattle.calls.specs.Begin.{begin_verdict, board_in, game_in}
 use Rattle.calls.specs.Turn.{turn_verdict, turn_game, texts_in}
 use Rattle.text.specs.declared.refusal.Refusal.{Refusal}
-use Rattle.text.specs.BoardFile.{BoardEntries, board_file}
-use Rattle.text.specs.GameFile.{GameEntries, game_file}
+use Rattle.text.specs.BoardFile.{board_file}
+use Rattle.text.specs.GameFile.{game_file}
 use Rattle.text.specs.OrdersFile.{Texts, orders_file}
 use Rattle.text.specs.Files.{begin_words}
 use Rattle.show.specs.Words.{Names}

@@ -1,7 +1,6 @@
 -- What the code's tables stand for. Assumes nothing.
-use Rattle.std.specs.Prelude.{ℕ, Bool, cond, List, [], map, length, Some, None, vec_items, Option, Vec}
+use Rattle.std.specs.Prelude.{ℕ, List, [], map, length, Some, None, Option}
 use Rattle.std.specs.Borrow.{Bor}
-use Rattle.std.specs.declared.alloc.Global.{Global}
 use Rattle.board.specs.Board.{Board}
 use Rattle.deciding.specs.declared.report.Report.{Report}
 use Rattle.game.specs.declared.phase.Phase.{Phase}

@@ -1,4 +1,6 @@
 // The programs as functions: from the bytes of a board's, a game's and an orders' file to the bytes printed.
+#![tactic(auto)]
+
 pub mod names;
 pub mod opening;
 pub mod plan;

@@ -1,7 +1,7 @@
 -- A table of the first whose place is each region, and the lines that are made from it. Assumes nothing.
-use Rattle.std.proofs.Common.{◌≡◌, ℕ, ◌+◌, ◌<◌, ◌≤◌, Bool, true, false, cond, eqb, List, [], ◌∷◌, length, get_or, drop, set, replicate, Some, None, Option, sym, refl, ap, ◌∙◌, subst, arith}
+use Rattle.std.proofs.Common.{◌≡◌, ℕ, ◌+◌, ◌<◌, ◌≤◌, cond, List, ◌∷◌, length, get_or, drop, set, replicate, Some, None, Option, sym, refl, ap, ◌∙◌, arith}
 use Rattle.std.proofs.lemmas.Bool.{eq-eqb, ne_eqb}
-use Rattle.values.specs.Fold.{gather, find}
+use Rattle.values.specs.Fold.{gather}
 use Rattle.tables.proofs.Regions.{region_at, region_start, region_write}
 use Rattle.show.specs.Game.{by_region}
 use Rattle.show.specs.Tables.{first_at, Tabled}

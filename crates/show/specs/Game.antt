@@ -1,5 +1,5 @@
 -- A game as it is printed: phase, units, those dislodged, barred regions, owners, each in the order of regions. Assumes nothing.
-use Rattle.std.specs.Prelude.{ℕ, Bool, cond, List, [], ◌∷◌, ◌++◌, Some, None, codes, Option, nat_eq, slice_index_or}
+use Rattle.std.specs.Prelude.{ℕ, Bool, cond, List, [], ◌++◌, Some, None, codes, Option, nat_eq, slice_index_or}
 use Rattle.values.specs.Fold.{each, find, is_in, count_up}
 use Rattle.board.specs.declared.unit.Unit.{Unit}
 use Rattle.game.specs.declared.phase.Phase.{Phase}

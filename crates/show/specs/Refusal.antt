@@ -1,5 +1,5 @@
 -- A refusal as it is printed. Assumes nothing.
-use Rattle.std.specs.Prelude.{ℕ, List, ◌++◌, codes, decimal}
+use Rattle.std.specs.Prelude.{ℕ, List, codes, decimal}
 use Rattle.show.specs.Words.{then, end}
 
 -- its number, and the line of the file, 0 for none

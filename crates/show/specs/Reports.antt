@@ -1,5 +1,5 @@
 -- What is printed of a phase: a line for each unit that it tells of, in the order of regions. Assumes nothing.
-use Rattle.std.specs.Prelude.{ℕ, Bool, true, false, cond, not, ◌||◌, List, [], ◌∷◌, ◌++◌, length, Some, None, codes, Option, ◌==◌, nat_eq}
+use Rattle.std.specs.Prelude.{ℕ, Bool, false, cond, ◌||◌, List, [], ◌++◌, length, Some, None, codes, Option, ◌==◌, nat_eq}
 use Rattle.values.specs.Fold.{any, find}
 use Rattle.board.specs.Board.{Board}
 use Rattle.board.specs.declared.order.Order.{Order}

@@ -1,4 +1,6 @@
 // What the programs print: games, and what is told of a phase, as bytes that grow.
+#![tactic(auto)]
+
 pub mod game_lines;
 pub mod moves;
 pub mod names;

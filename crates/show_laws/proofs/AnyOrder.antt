@@ -1,5 +1,5 @@
 -- Games alike print the same bytes, and so does a phase of them: each line asks only who is in a region, which no order of lists changes.
-use Rattle.std.proofs.Common.{◌≡◌, ℕ, Bool, true, cond, not, ◌&&◌, ◌||◌, eqb, List, [], ◌∷◌, ◌++◌, map, length, Some, None, Option, sym, refl, ap, ◌∙◌}
+use Rattle.std.proofs.Common.{◌≡◌, ℕ, true, cond, not, ◌&&◌, ◌||◌, eqb, List, [], ◌++◌, map, length, Some, None, Option, sym, refl, ap, ◌∙◌}
 use Rattle.values.specs.Fold.{number, distinct}
 use Rattle.values.specs.Shuffle.{Shuffled, twice}
 use Rattle.values.proofs.Shuffled.{shuffle_eq, any_shuffle, number_shuffle, find_shuffle, map_keys}

@@ -1,4 +1,6 @@
 // That what is printed doesn't depend on the order of lists.
+#![tactic(auto)]
+
 ghost use Rattle.show_laws.specs.AnyOrder.{PrintAnyOrder};
 
 // A phase of games alike, on boards drawn alike, with the same texts in any order, prints the same bytes.

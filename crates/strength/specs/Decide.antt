@@ -1,8 +1,8 @@
 -- One move or support decided by all the others. Assumes nothing.
-use Rattle.std.specs.Prelude.{Bool, true, false, cond, not, ◌&&◌, List, ◌==◌}
+use Rattle.std.specs.Prelude.{Bool, not, ◌&&◌, List, ◌==◌}
 use Rattle.values.specs.Fold.{gather}
 use Rattle.values.specs.declared.tri.Tri.{Tri}
-use Rattle.values.specs.declared.tri.Tri.TheVariants.{No, Open, Yes}
+use Rattle.values.specs.declared.tri.Tri.TheVariants.{No, Yes}
 use Rattle.values.specs.declared.span.Span.{Span}
 use Rattle.values.specs.Tri.{not_tri, and_tri, or_tri}
 use Rattle.values.specs.Span.{exactly, greater}

@@ -1,8 +1,8 @@
 -- Strengths of moves, as spans: what attacks, what prevents, what has to be beaten. Assumes nothing.
-use Rattle.std.specs.Prelude.{ℕ, Bool, true, false, cond, not, ◌&&◌, List, Some, None, Option, ◌==◌}
+use Rattle.std.specs.Prelude.{ℕ, Bool, cond, not, ◌&&◌, List, Some, None, Option, ◌==◌}
 use Rattle.values.specs.Fold.{gather}
 use Rattle.values.specs.declared.tri.Tri.{Tri}
-use Rattle.values.specs.declared.tri.Tri.TheVariants.{No, Open, Yes}
+use Rattle.values.specs.declared.tri.Tri.TheVariants.{No}
 use Rattle.values.specs.declared.span.Span.{Span}
 use Rattle.values.specs.Span.{sum, exactly, either, counted}
 use Rattle.board.specs.Board.{Board}

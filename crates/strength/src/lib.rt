@@ -1,4 +1,6 @@
 // Strengths, and one order decided by all the others.
+#![tactic(auto)]
+
 pub mod decide;
 pub mod strengths;
 pub mod support;

@@ -1,4 +1,6 @@
 // Tables by region.
+#![tactic(auto)]
+
 pub mod table;
 
 pub use table::filled;

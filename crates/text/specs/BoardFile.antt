@@ -1,5 +1,5 @@
 -- A board's file: the forms of its lines, and what they come to. Assumes nothing.
-use Rattle.std.specs.Prelude.{ℕ, ◌+◌, List, [], ◌∷◌, ◌++◌, vec_items, codes, Option, Result}
+use Rattle.std.specs.Prelude.{ℕ, ◌+◌, List, [], ◌∷◌, ◌++◌, vec_items, codes, Result}
 use Rattle.std.specs.Option.{option_map}
 use Rattle.text.specs.declared.refusal.Refusal.{Refusal}
 use Rattle.text.specs.declared.board_file.BoardLine.{BoardLine}

@@ -1,4 +1,6 @@
 // Files read: a board's, a game's and orders' bytes, to the words of a call or to a refusal with its line.
+#![tactic(auto)]
+
 pub mod board_file;
 pub mod files;
 pub mod game_file;

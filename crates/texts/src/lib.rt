@@ -1,4 +1,6 @@
 // What players wrote: the one text of a power for a region, and the orders that units begin a phase with.
+#![tactic(auto)]
+
 pub mod orders;
 pub mod texts;
 

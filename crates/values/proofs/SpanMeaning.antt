@@ -1,10 +1,9 @@
 -- What the operations on spans say of the numbers within them.
 use Rattle.std.proofs.Common.{◌≡◌, ℕ, ◌<◌, ◌≤◌, arith}
-use Rattle.values.specs.declared.tri.Tri.{Tri}
 use Rattle.values.specs.declared.tri.Tri.TheVariants.{No, Open, Yes}
 use Rattle.values.specs.declared.span.Span.{Span}
-use Rattle.values.specs.Span.{sum, greater, either, lesser_of, greater_of}
-use Rattle.values.specs.Laws.{Within, SpanLaws}
+use Rattle.values.specs.Span.{greater, lesser_of, greater_of}
+use Rattle.values.specs.Laws.{SpanLaws}
 
 yes_above : (a b : Span) → greater a b ≡ Yes → b.greatest < a.least
 yes_above a b e = grind arith

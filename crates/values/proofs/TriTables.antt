@@ -1,7 +1,5 @@
 -- The laws of yes, no and open, each by its table.
-use Rattle.std.proofs.Common.{◌≡◌, arith}
-use Rattle.values.specs.declared.tri.Tri.{Tri}
-use Rattle.values.specs.Tri.{not_tri, and_tri, or_tri}
+use Rattle.std.proofs.Common.{arith}
 use Rattle.values.specs.Laws.{TriLaws}
 
 pub tri_laws : TriLaws

@@ -4,7 +4,7 @@ use Rattle.values.specs.declared.tri.Tri.{Tri}
 use Rattle.values.specs.declared.tri.Tri.TheVariants.{No, Open, Yes}
 use Rattle.values.specs.declared.span.Span.{Span}
 use Rattle.values.specs.Tri.{not_tri, and_tri, or_tri}
-use Rattle.values.specs.Span.{exactly, sum, greater, either, counted}
+use Rattle.values.specs.Span.{exactly, sum, greater, either}
 
 pub record TriLaws : Type 0 where
   pub not_not : (a : Tri) → not_tri (not_tri a) ≡ a

@@ -1,5 +1,5 @@
 -- Strengths known within bounds: sum, either of two, and which is greater. Assumes nothing.
-use Rattle.std.specs.Prelude.{ℕ, ◌+◌, Bool, true, false, cond, nat_le, nat_lt}
+use Rattle.std.specs.Prelude.{ℕ, ◌+◌, cond, nat_le, nat_lt}
 use Rattle.values.specs.declared.tri.Tri.{Tri}
 use Rattle.values.specs.declared.tri.Tri.TheVariants.{No, Open, Yes}
 use Rattle.values.specs.declared.span.Span.{Span}

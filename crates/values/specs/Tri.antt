@@ -1,5 +1,5 @@
 -- And, or and not of yes, no and open. Assumes nothing.
-use Rattle.std.specs.Prelude.{Bool, true, false, cond, not, ◌&&◌}
+use Rattle.std.specs.Prelude.{Bool, true, false}
 use Rattle.values.specs.declared.tri.Tri.{Tri}
 use Rattle.values.specs.declared.tri.Tri.TheVariants.{No, Open, Yes}
 

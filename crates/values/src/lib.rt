@@ -1,4 +1,6 @@
 // The values that deciding reckons with: yes, no and open, and strengths that are known only within bounds.
+#![tactic(auto)]
+
 pub mod laws;
 pub mod span;
 pub mod tri;

@@ -1,7 +1,7 @@
 -- Who goes and who comes in a winter, as the code's sets and tables say it. Assumes nothing.
 use Rattle.std.proofs.Common.{◌≡◌, ℕ, suc, ◌+◌, ◌-◌, ◌<◌, Bool, true, false, cond, not, ◌&&◌, ◌||◌, ltb, List, ◌++◌, length, get_or, take, Some, None, Option, refl, ap, ◌∙◌, arith}
 use Rattle.std.proofs.lemmas.Bool.{and_parts, and_from, lt-ltb}
-use Rattle.values.specs.Fold.{all, each, select, those, is_in}
+use Rattle.values.specs.Fold.{all, select, those, is_in}
 use Rattle.geography.specs.declared.region_set.RegionSet.{RegionSet}
 use Rattle.geography.specs.RegionSet.{has, Holds, empty}
 use Rattle.geography.proofs.Bitwise.{has_none}

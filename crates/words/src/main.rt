@@ -1,4 +1,6 @@
 // Calls from standard input, one to a line, and their answers on standard output.
+#![tactic(auto)]
+
 use adjudicator::Adjudicator;
 use answers::answer_all;
 use std::io;

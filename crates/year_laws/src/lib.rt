@@ -1,4 +1,6 @@
 // Theorems about the year, each named in a contract.
+#![tactic(auto)]
+
 ghost use Rattle.year_laws.specs.Kept.{LawfulKept, LawfulPlayed, LawfulTested, LawfulBounded};
 ghost use Rattle.year_laws.specs.Counts.{NobodyGains, MovesLoseNobody, WinterBalances};
 ghost use Rattle.year_laws.specs.MoveLaw.{MoveLaw, DislodgeLaw};

@@ -1,4 +1,4 @@
-use Rattle.std.proofs.Common.{◌≡◌, vec_items, refl, ap, ◌∙◌, rules}
+use Rattle.std.proofs.Common.{◌≡◌, vec_items, refl, ◌∙◌, rules}
 use Rattle.geography.specs.RegionSet.{empty}
 use Rattle.game.specs.declared.phase.Phase.TheVariants.{Winter}
 use Rattle.game.specs.Owners.{owners_from}

@@ -1,6 +1,6 @@
 use Rattle.std.proofs.Common.{◌≡◌, vec_items, refl, rules}
 use Rattle.geography.specs.RegionSet.{empty}
-use Rattle.game.specs.declared.phase.Phase.TheVariants.{SpringMoves, AutumnMoves}
+use Rattle.game.specs.declared.phase.Phase.TheVariants.{SpringMoves}
 use Rattle.game.specs.Turn.{turn}
 use Rattle.position.specs.Position.{board_of, game_of}
 use Rattle.adjudicator.proofs.Onward.{made_of, after_winter, stays-lawful}

@@ -1,5 +1,4 @@
-use Rattle.std.proofs.Common.{◌≡◌, ℕ, ◌+◌, true, false, ◌&&◌, ◌||◌, eqb, ltb, length, vec_items, sym, refl, ap, ◌∙◌, arith}
-use Rattle.std.proofs.lemmas.Bool.Decides.{nat_tests}
+use Rattle.std.proofs.Common.{◌≡◌, ◌&&◌, ◌||◌, eqb, ltb, length, vec_items, sym, ap, ◌∙◌, arith}
 use Rattle.geography.specs.RegionSet.{has}
 use Rattle.geography.proofs.Bitwise.{has_none}
 use Rattle.adjudicator.proofs.Bounds.{those_in, one_barred, one_free, none_below}

@@ -1,4 +1,4 @@
-use Rattle.std.proofs.Common.{◌≡◌, ◌≤◌, List, map, length, vec_items, sym, refl, ap, ◌∙◌, subst, arith}
+use Rattle.std.proofs.Common.{◌≡◌, map, length, vec_items, sym, ap, ◌∙◌, subst, arith}
 use Rattle.assignment.specs.Places.{Inside}
 use Rattle.paths.specs.Paths.{paths_of}
 use Rattle.deciding.specs.Outcome.{fresh, outcome}

@@ -1,4 +1,4 @@
-use Rattle.std.proofs.Common.{◌++◌, get_or, drop, vec_items, sym, ap, ◌∙◌, append-nil, arith}
+use Rattle.std.proofs.Common.{◌++◌, get_or, vec_items, sym, ap, ◌∙◌, append-nil, arith}
 use Rattle.std.proofs.lemmas.List.{drop_all}
 use Rattle.values.specs.Fold.{gather, pick}
 use Rattle.assignment.specs.declared.resolution.Resolution.{Resolution}

@@ -1,4 +1,4 @@
-use Rattle.std.proofs.Common.{not, ◌++◌, drop, vec_items, sym, ap, ◌∙◌, append-nil, arith}
+use Rattle.std.proofs.Common.{not, ◌++◌, vec_items, sym, ap, ◌∙◌, append-nil, arith}
 use Rattle.std.proofs.lemmas.List.{drop_all}
 use Rattle.values.specs.Fold.{gather, pick}
 use Rattle.assignment.specs.Assignment.{nobody}

@@ -1,4 +1,4 @@
-use Rattle.std.proofs.Common.{◌≡◌, ◌++◌, vec_items, string_bytes, sym, ap, ◌∙◌}
+use Rattle.std.proofs.Common.{◌++◌, vec_items, string_bytes, sym, ap, ◌∙◌}
 use Rattle.lines.specs.Calls.{called_by}
 use Rattle.answers.specs.Answers.{stood_by, after_begin, after_turn, begin_bytes, turn_bytes, key_bytes, key_after}
 use Rattle.answers.proofs.Spoken.{call_spoken}

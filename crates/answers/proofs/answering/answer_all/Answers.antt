@@ -1,4 +1,4 @@
-use Rattle.std.proofs.Common.{◌≡◌, string_bytes}
+use Rattle.std.proofs.Common.{string_bytes}
 use Rattle.lines.specs.Split.{lines_of}
 use Rattle.answers.specs.Answers.{stood_by}
 use Rattle.answers.proofs.Spoken.{all_more, all_none}

@@ -1,5 +1,5 @@
 use Rattle.std.proofs.Common.{◌≡◌, string_bytes, sym, refl, ◌∙◌}
-use Rattle.answers.specs.Answers.{Standing, stood_by, after_begin}
+use Rattle.answers.specs.Answers.{stood_by, after_begin}
 use Rattle.answers.proofs.Spoken.{begin_spoken}
 use Rattle.answers.proofs.answering.answer_begin.Goals as goal
 

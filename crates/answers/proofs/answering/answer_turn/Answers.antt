@@ -1,5 +1,5 @@
 use Rattle.std.proofs.Common.{◌≡◌, cond, [], ◌++◌, string_bytes, sym, refl, ap, ◌∙◌}
-use Rattle.answers.specs.Answers.{Standing, stood_by, after_turn, last_line}
+use Rattle.answers.specs.Answers.{stood_by, after_turn, last_line}
 use Rattle.answers.proofs.Spoken.{turn_spoken, told_yes, told_no}
 use Rattle.answers.proofs.answering.answer_turn.Goals as goal
 use Rattle.answers.proofs.answering.answer_turn.Goals.{then-moves+in_ok-push_last, else-moves}

@@ -1,4 +1,4 @@
-use Rattle.std.proofs.Common.{◌≡◌, ℕ, List, [], ◌∷◌, ◌++◌, map, length, vec_items, refl, ap, ◌∙◌, append_assoc}
+use Rattle.std.proofs.Common.{[], ◌∷◌, map, length, vec_items, refl, ap, ◌∙◌, append_assoc}
 use Rattle.values.specs.Fold.{those}
 use Rattle.geography.specs.RegionSet.{has}
 use Rattle.answers.specs.Words.{one_more, phase_word, unit_words, out_words, in_order}

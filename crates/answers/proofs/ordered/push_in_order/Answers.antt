@@ -1,4 +1,4 @@
-use Rattle.std.proofs.Common.{◌≡◌, ◌++◌, vec_items, ap, ◌∙◌}
+use Rattle.std.proofs.Common.{◌++◌, vec_items, ap, ◌∙◌}
 use Rattle.answers.proofs.Tabled.{words_by_table}
 use Rattle.answers.proofs.ordered.push_in_order.Goals as goal
 

@@ -1,4 +1,4 @@
-use Rattle.std.proofs.Common.{◌≡◌, ◌+◌, ◌-◌, ◌∷◌, get_or, drop, refl, ap, ◌∙◌, arith, rules}
+use Rattle.std.proofs.Common.{◌≡◌, ◌+◌, ◌-◌, ◌∷◌, get_or, drop, ap, ◌∙◌, arith, rules}
 use Rattle.values.specs.Fold.{gather}
 use Rattle.values.specs.Tri.{or_tri}
 use Rattle.values.specs.declared.tri.Tri.TheVariants.{No}

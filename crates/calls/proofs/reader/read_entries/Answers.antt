@@ -1,7 +1,6 @@
-use Rattle.std.proofs.Common.{◌≡◌, ◌+◌, ◌-◌, ◌*◌, ◌<◌, ◌≤◌, Bool, true, false, ◌&&◌, [], ◌∷◌, ◌++◌, length, take, drop, vec_items, sym, refl, ap, ◌∙◌, append_assoc, append-nil, arith, length-drop, rules}
+use Rattle.std.proofs.Common.{◌+◌, ◌-◌, Bool, ◌&&◌, ◌++◌, length, drop, vec_items, sym, refl, ap, ◌∙◌, append-nil, arith, length-drop, rules}
 use Rattle.std.proofs.lemmas.List.{take_rest}
 use Rattle.calls.specs.Words.{entries, every_entry}
-use Rattle.calls.specs.Read.{read_if}
 use Rattle.calls.proofs.Entries.{entries_none, entries_step, every_more, every_none, every_step, room_more, good_some, good_none}
 use Rattle.calls.proofs.reader.read_entries.Goals as goal
 

@@ -1,4 +1,4 @@
-use Rattle.std.proofs.Common.{◌≡◌, ◌<◌, length, get_or, sym, refl, ap, ◌∙◌, arith, rules}
+use Rattle.std.proofs.Common.{◌<◌, length, get_or, ap, arith, rules}
 use Rattle.calls.proofs.Fits.{back_misfit, both_fit, rooms, out_is, out_many, out_short, tail_is, barred_is, barred_many, barred_unlike, back_fit}
 use Rattle.calls.proofs.sections.cut.Goals as goal
 use Rattle.calls.proofs.sections.cut.Goals.{then-dislodged-gt128-via-then-dislodged-gt128, then-dislodged-gt128-via-else-dislodged-gt128+then-body-dislodged, then-barred-gt128-via-then-barred-gt128, then-barred-gt128-via-else-barred-gt128+then-body-barred}

@@ -1,7 +1,7 @@
-use Rattle.std.proofs.Common.{◌≡◌, ◌*◌, length, drop, refl, ap, ◌∙◌, one-mul, arith, length-drop}
+use Rattle.std.proofs.Common.{◌≡◌, ◌*◌, drop, refl, ap, ◌∙◌, one-mul, arith, length-drop}
 use Rattle.std.proofs.lemmas.List.{take_rest}
 use Rattle.std.proofs.lemmas.Bool.Decides.{nat_tests}
-use Rattle.calls.specs.Begin.{region_count, march_count, sail_count, unit_count, march_words, sail_words, unit_words, owner_words, phase_words}
+use Rattle.calls.specs.Begin.{region_count, march_count, sail_count, unit_count, march_words, sail_words, unit_words, owner_words}
 use Rattle.calls.proofs.sections.cut_front.Goals as goal
 
 pub returns : goal.returns

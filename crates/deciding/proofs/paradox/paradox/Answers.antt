@@ -1,4 +1,4 @@
-use Rattle.std.proofs.Common.{◌≡◌, sym, ◌∙◌, arith}
+use Rattle.std.proofs.Common.{sym, ◌∙◌, arith}
 use Rattle.board.specs.Atlas.{board_of}
 use Rattle.assignment.specs.Assignment.{nobody}
 use Rattle.deciding.specs.Outcome.{unsettled}

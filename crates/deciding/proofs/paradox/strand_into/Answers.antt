@@ -1,4 +1,4 @@
-use Rattle.std.proofs.Common.{◌≡◌, ◌+◌, ◌++◌, map, drop, vec_items, ap, ◌∙◌, arith, rules}
+use Rattle.std.proofs.Common.{◌+◌, ◌++◌, map, drop, vec_items, ap, ◌∙◌, arith, rules}
 use Rattle.board.specs.Atlas.{board_of}
 use Rattle.assignment.specs.Assignment.{nobody}
 use Rattle.deciding.specs.Outcome.{strand_one}

@@ -1,4 +1,4 @@
-use Rattle.std.proofs.Common.{◌≡◌, ◌+◌, ◌++◌, map, drop, vec_items, ap, ◌∙◌, arith, rules}
+use Rattle.std.proofs.Common.{◌+◌, ◌++◌, map, drop, vec_items, ap, ◌∙◌, arith, rules}
 use Rattle.assignment.specs.Assignment.{nobody}
 use Rattle.deciding.specs.Outcome.{close_one}
 use Rattle.deciding.proofs.Walks.{map_on, map-end}

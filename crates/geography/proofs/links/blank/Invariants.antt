@@ -1,4 +1,4 @@
-use Rattle.std.proofs.Common.{◌≡◌, replicate, vec_items, vec_len}
+use Rattle.std.proofs.Common.{◌≡◌, replicate, vec_items}
 use Rattle.geography.specs.RegionSet.{empty}
 use Rattle.geography.proofs.links.blank.Given as goal
 

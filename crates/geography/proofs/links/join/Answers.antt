@@ -1,4 +1,4 @@
-use Rattle.std.proofs.Common.{◌≡◌, ◌||◌, eqb, length, get_or, vec_items, ap, ◌∙◌, arith, rules}
+use Rattle.std.proofs.Common.{◌||◌, eqb, vec_items, ap, ◌∙◌, arith}
 use Rattle.std.proofs.lemmas.List.{get_or_default}
 use Rattle.geography.specs.RegionSet.{has, empty}
 use Rattle.geography.proofs.Edges.{join_has}

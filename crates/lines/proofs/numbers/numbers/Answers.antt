@@ -1,4 +1,4 @@
-use Rattle.std.proofs.Common.{◌≡◌, ◌+◌, [], ◌∷◌, ◌++◌, drop, Some, None, vec_items, sym, ap, ◌∙◌}
+use Rattle.std.proofs.Common.{◌+◌, [], ◌∷◌, ◌++◌, drop, Some, vec_items, sym, ap, ◌∙◌}
 use Rattle.lines.specs.Numbers.{finish, numbers_from}
 use Rattle.lines.proofs.Steps.{resume, grows, ends, fails, finishes}
 use Rattle.lines.proofs.numbers.numbers.Goals as goal

@@ -1,6 +1,6 @@
-use Rattle.std.proofs.Common.{◌≡◌, ◌-◌, [], ◌∷◌, length, sym, refl, ap, ◌∙◌, arith, rules}
+use Rattle.std.proofs.Common.{◌≡◌, ◌-◌, [], ◌∷◌, length, sym, ap, ◌∙◌, arith, rules}
 use Rattle.std.proofs.lemmas.Bool.{eqb-true, and_parts}
-use Rattle.values.specs.Fold.{gather, any, is_in}
+use Rattle.values.specs.Fold.{any, is_in}
 use Rattle.geography.proofs.Bitwise.{has_none, has_same}
 use Rattle.board.specs.Atlas.{board_of}
 use Rattle.paths.specs.Paths.{reached, flood}

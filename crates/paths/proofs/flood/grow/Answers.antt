@@ -1,6 +1,6 @@
 use Rattle.std.proofs.Common.{rules}
 use Rattle.std.proofs.lemmas.List.{drop_all}
-use Rattle.values.specs.Fold.{gather, any, is_in}
+use Rattle.values.specs.Fold.{gather, any}
 use Rattle.values.specs.Fold.{gather, any}
 use Rattle.assignment.proofs.Steps.{resolution_more}
 use Rattle.assignment.proofs.Tabled.{inside_at}

@@ -1,7 +1,5 @@
-use Rattle.std.proofs.Common.{map, rules}
+use Rattle.std.proofs.Common.{rules}
 use Rattle.assignment.proofs.Steps.{steps}
-use Rattle.assignment.proofs.Tabled.{inside_at}
-use Rattle.assignment.specs.Assignment.{dislodged}
 use Rattle.paths.proofs.table.dislodged_into.Goals as goal
 
 pub loop-x-preserved : goal.loop-x-preserved

@@ -1,7 +1,6 @@
-use Rattle.std.proofs.Common.{map, rules}
+use Rattle.std.proofs.Common.{rules}
 use Rattle.assignment.proofs.Steps.{steps}
 use Rattle.assignment.proofs.Tabled.{inside_at}
-use Rattle.paths.specs.Paths.{path}
 use Rattle.paths.proofs.table.each_path.Goals as goal
 
 pub path-requires : goal.path-requires

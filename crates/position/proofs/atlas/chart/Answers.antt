@@ -1,9 +1,5 @@
-use Rattle.std.proofs.Common.{◌≡◌, ◌≤◌, Bool, true, List, length, vec_items, sym, ap, ◌∙◌}
-use Rattle.std.proofs.lemmas.Bool.{and_parts, leb-true}
-use Rattle.board.specs.declared.region.Region.{Region}
-use Rattle.geography.specs.declared.links.Edge.{Edge}
-use Rattle.board.specs.Board.{good_board, good_edge}
-use Rattle.values.specs.Fold.{all}
+use Rattle.std.proofs.Common.{◌≡◌, true, vec_items, sym, ◌∙◌}
+use Rattle.board.specs.Board.{good_board}
 use Rattle.position.specs.Tables.{board_from}
 use Rattle.position.proofs.Ends.{good_march, good_sail}
 use Rattle.position.proofs.atlas.chart.Goals as goal

@@ -1,4 +1,4 @@
-use Rattle.std.proofs.Common.{sym, rules}
+use Rattle.std.proofs.Common.{rules}
 use Rattle.game.specs.Lawful.{good_owners}
 use Rattle.position.proofs.Steps.{steps, owners_unlike}
 use Rattle.position.proofs.lawful.good_owners.Goals as goal

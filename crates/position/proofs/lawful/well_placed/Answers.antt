@@ -6,7 +6,6 @@ use Rattle.position.proofs.Steps.{nobody}
 use Rattle.position.proofs.Placed.{Placed, placed_none, placed_more, ill_stood, ill_apart}
 use Rattle.position.proofs.lawful.well_placed.Goals as goal
 use Rattle.position.proofs.lawful.well_placed.Goals.{then-not-stands-via-then-not-stands, then-not-stands-via-else-not-stands+then-contains}
-use Rattle.position.proofs.lawful.well_placed.Given.{Over}
 
 pub loop-i-init : goal.loop-i-init
 loop-i-init g c =

@@ -1,4 +1,4 @@
-use Rattle.std.proofs.Common.{◌≡◌, ap, ◌∙◌}
+use Rattle.std.proofs.Common.{◌∙◌}
 use Rattle.position.proofs.Empty.{no_ends, empty_good}
 use Rattle.position.proofs.start.empty_atlas.Goals as goal
 

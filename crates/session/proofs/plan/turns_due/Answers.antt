@@ -1,7 +1,7 @@
 use Rattle.std.proofs.Common.{◌≡◌, ℕ, suc, ◌+◌, ◌-◌, eqb, List, [], ◌∷◌, ◌++◌, drop, vec_items, sym, ap, ◌∙◌, arith}
 use Rattle.std.proofs.lemmas.List.{map_push}
 use Rattle.text.specs.OrdersFile.{texts_of}
-use Rattle.session.specs.Session.{next_number, block_phase, turns_due}
+use Rattle.session.specs.Session.{block_phase, turns_due}
 use Rattle.session.specs.Tables.{blocks_of, turns_in}
 use Rattle.session.proofs.Due.{on_taken, on_waiting, on_empty, turns_end, read_twice}
 use Rattle.session.proofs.plan.turns_due.Goals as goal

@@ -1,4 +1,4 @@
-use Rattle.std.proofs.Common.{◌≡◌, vec_items, refl, ap, ◌∙◌}
+use Rattle.std.proofs.Common.{◌≡◌, vec_items, ap, ◌∙◌}
 use Rattle.game.specs.Turn.{turn}
 use Rattle.position.specs.Position.{board_of, game_of}
 use Rattle.session.specs.Tables.{place_names}

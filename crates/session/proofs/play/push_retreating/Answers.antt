@@ -1,4 +1,4 @@
-use Rattle.std.proofs.Common.{map, vec_items, sym, refl, ap, ◌∙◌, arith}
+use Rattle.std.proofs.Common.{vec_items, sym, ◌∙◌, arith}
 use Rattle.position.specs.Position.{board_of, game_of}
 use Rattle.show.proofs.Lines.{made_then}
 use Rattle.session.proofs.play.push_retreating.Goals as goal

@@ -1,4 +1,4 @@
-use Rattle.std.proofs.Common.{false, ◌++◌, get_or, None, vec_items, arith, rules}
+use Rattle.std.proofs.Common.{false, get_or, None, vec_items, arith, rules}
 use Rattle.show.specs.Tables.{marked_line}
 use Rattle.show.proofs.Lines.{no_line, next_line, all_lines}
 use Rattle.show.proofs.moves.push_marked_table.Goals as goal

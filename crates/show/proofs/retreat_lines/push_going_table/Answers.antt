@@ -1,5 +1,5 @@
-use Rattle.std.proofs.Common.{◌≡◌, ℕ, List, ◌++◌, get_or, None, vec_items, Option, arith, rules}
-use Rattle.retreats.specs.Retreating.{Counted, goals_in}
+use Rattle.std.proofs.Common.{get_or, None, vec_items, arith, rules}
+use Rattle.retreats.specs.Retreating.{goals_in}
 use Rattle.show.specs.Reports.{alone}
 use Rattle.show.specs.Tables.{going_line}
 use Rattle.show.proofs.Lines.{no_line, next_line, all_lines}

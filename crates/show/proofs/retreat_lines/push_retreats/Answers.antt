@@ -1,4 +1,4 @@
-use Rattle.std.proofs.Common.{◌++◌, map, vec_items, sym, ap, ◌∙◌, subst, arith}
+use Rattle.std.proofs.Common.{◌++◌, vec_items, sym, ap, ◌∙◌, subst, arith}
 use Rattle.retreats.specs.Retreating.{Counted}
 use Rattle.show.specs.Tables.{Tabled, Going}
 use Rattle.show.proofs.Lines.{made_then}

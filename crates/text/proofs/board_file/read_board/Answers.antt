@@ -1,4 +1,3 @@
-use Rattle.std.proofs.Common.{◌≡◌, sym, ap, ◌∙◌, subst}
 use Rattle.std.proofs.lemmas.Result.{err_from_is_err_and}
 use Rattle.text.specs.BoardFile.{board_step, board_file, board_entries}
 use Rattle.text.proofs.Reading.{read_end, read_on, read_fault}

@@ -1,4 +1,4 @@
-use Rattle.std.proofs.Common.{◌≡◌, vec_items, sym, ap, ◌∙◌, subst}
+use Rattle.std.proofs.Common.{vec_items}
 use Rattle.std.proofs.lemmas.Result.{err_from_is_err_and}
 use Rattle.text.specs.Names.{names_of}
 use Rattle.text.specs.OrdersFile.{orders_step, orders_lines, lines_in}

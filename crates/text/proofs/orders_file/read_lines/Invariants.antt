@@ -1,7 +1,7 @@
 use Rattle.std.proofs.Common.{◌≡◌, length, vec_items}
 use Rattle.text.specs.Lines.{lines_of, read_lines}
 use Rattle.text.specs.Names.{names_of}
-use Rattle.text.specs.OrdersFile.{orders_step, orders_lines, lines_in}
+use Rattle.text.specs.OrdersFile.{orders_step, orders_lines}
 use Rattle.text.proofs.orders_file.read_lines.Given as goal
 
 -- the lines that are left, read by what is known, give the whole

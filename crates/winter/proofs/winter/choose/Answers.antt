@@ -1,7 +1,6 @@
 use Rattle.std.proofs.Common.{sym, ◌∙◌, rules}
 use Rattle.geography.specs.RegionSet.{has}
 use Rattle.board.specs.Atlas.{board_of}
-use Rattle.winter.specs.Wintering.{candidate}
 use Rattle.tables.proofs.Placement.{board_small}
 use Rattle.winter.proofs.Choosing.{choose_start, choose_skip, choose_take, choose_end, choose_full}
 use Rattle.winter.proofs.winter.choose.Goals as goal

@@ -1,4 +1,4 @@
-use Rattle.std.proofs.Common.{◌≡◌, Bool, cond, ◌&&◌, length, vec_items, sym, refl, ap, ◌∙◌, arith}
+use Rattle.std.proofs.Common.{◌≡◌, cond, ◌&&◌, length, vec_items, sym, ap, ◌∙◌, arith}
 use Rattle.deciding.specs.Outcome.{reports}
 use Rattle.game.specs.Game.{is_moves}
 use Rattle.game.specs.Texts.{ordered}
@@ -6,7 +6,7 @@ use Rattle.game.specs.Turn.{turn}
 use Rattle.position.specs.Position.{board_of, game_of}
 use Rattle.calls.specs.declared.verdict.Verdict.TheVariants.{Accepted}
 use Rattle.calls.specs.Verdict.{is_accepted}
-use Rattle.calls.specs.Turn.{turn_verdict, texts_verdict, texts_in, turn_game, turn_last}
+use Rattle.calls.specs.Turn.{turn_verdict, texts_verdict, texts_in}
 use Rattle.adjudicator.specs.Told.{told, told_in}
 use Rattle.adjudicator.proofs.Onward.{told_new, told_old}
 use Rattle.adjudicator.proofs.referee.AdjudicatorReferee.turn.Goals as goal

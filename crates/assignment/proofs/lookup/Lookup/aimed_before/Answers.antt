@@ -1,4 +1,4 @@
-use Rattle.std.proofs.Common.{◌≡◌, vec_items, ◌∙◌, arith}
+use Rattle.std.proofs.Common.{vec_items, ◌∙◌, arith}
 use Rattle.std.proofs.lemmas.List.{get_or_default}
 use Rattle.assignment.proofs.Tabled.{chained_before}
 use Rattle.assignment.proofs.lookup.Lookup.aimed_before.Goals as goal

@@ -1,4 +1,4 @@
-use Rattle.std.proofs.Common.{◌≡◌, length, vec_items, ap, ◌∙◌}
+use Rattle.std.proofs.Common.{length, vec_items, ap, ◌∙◌}
 use Rattle.geography.specs.RegionSet.{empty}
 use Rattle.game.specs.declared.phase.Phase.TheVariants.{SpringMoves}
 use Rattle.game.specs.Lawful.{lawful}

@@ -1,4 +1,4 @@
-use Rattle.std.proofs.Common.{[], sym, arith, rules}
+use Rattle.std.proofs.Common.{[], sym, arith}
 use Rattle.std.proofs.lemmas.List.{get_or_past}
 use Rattle.session.specs.Tables.{place_names}
 use Rattle.session.proofs.names.GazetteerNamed.name.Goals as goal

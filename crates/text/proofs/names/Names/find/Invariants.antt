@@ -1,4 +1,4 @@
-use Rattle.std.proofs.Common.{◌≡◌, map, drop, vec_items}
+use Rattle.std.proofs.Common.{◌≡◌, drop}
 use Rattle.text.specs.Words.{place, place_from}
 use Rattle.text.specs.Names.{names_of}
 use Rattle.text.proofs.names.Names.find.Given as goal

@@ -1,4 +1,3 @@
-use Rattle.std.proofs.Common.{◌∙◌}
 use Rattle.text.proofs.Steps.{some_word}
 use Rattle.text.proofs.words.Words.end.Goals as goal
 

@@ -1,4 +1,4 @@
-use Rattle.std.proofs.Common.{◌≡◌, ◌+◌, ◌-◌, ◌<◌, true, cond, ltb, [], ◌∷◌, length, take, drop, sym, refl, ap, arith, rules}
+use Rattle.std.proofs.Common.{◌≡◌, ◌+◌, ◌-◌, ◌<◌, cond, ltb, [], ◌∷◌, length, take, drop, sym, refl, ap, arith, rules}
 use Rattle.text.specs.Lines.{words_of}
 use Rattle.text.specs.Words.{front, behind}
 use Rattle.text.specs.Reader.{left}
