@@ -1,7 +1,7 @@
 -- Units taken from the last to the first, with the set of regions that are taken. Assumes nothing.
 use Rattle.std.proofs.Common.{◌≡◌, ℕ, zero, suc, ◌+◌, ◌<◌, ◌≤◌, Bool, true, false, not, ◌&&◌, ◌||◌, eqb, List, [], ◌∷◌, length, get_or, drop, sym, refl, ap, ◌∙◌, ⊎_elim}
 use Rattle.std.proofs.lemmas.List.{drop_all}
-use Rattle.std.proofs.lemmas.Bool.{and_parts, and_from, and_left, and_right, not_from_true, not_from_false, cases_Bool, both_ways}
+use Rattle.std.proofs.lemmas.Bool.{not-true, and_parts, and_from, and_left, and_right, not_from_true, not_from_false, cases_Bool, both_ways}
 use Rattle.values.specs.Fold.{all, any, is_in, distinct}
 use Rattle.geography.specs.declared.region_set.RegionSet.{RegionSet}
 use Rattle.geography.specs.RegionSet.{has, empty, Holds}
@@ -64,3 +64,16 @@ module _ (m : Board) (us : List Unit) (i : ℕ) (s : RegionSet) (u : Unit) (with
       rest_ill m us i
       (and_left (distinct (places (drop i us))) (all (stands m) (drop i us))
       (rw here (and_left (not (is_in u.region (places (drop (i + 1) us)))) (distinct (places (drop (i + 1) us))) (not_from_true (is_in u.region (places (drop (i + 1) us))) (sym (later.taken u.region) ∙ bad)))))
+
+  pub placed_fits : (t : RegionSet) → (stands m u && not (has s u.region)) ≡ true → ((q : ℕ) → has t q ≡ (eqb q u.region || has s q)) → Placed m us i t
+  placed_fits t fits new =
+      let parts = and_parts (stands m u) (not (has s u.region)) fits in
+      placed_more t parts.0 (not-true (has s u.region) parts.1) new
+
+  pub ill_fits : (stands m u && not (has s u.region)) ≡ false → whole m us ≡ false
+  ill_fits bad = go (stands m u) refl (has s u.region) refl bad
+    where
+      go : (a : Bool) → stands m u ≡ a → (b : Bool) → has s u.region ≡ b → (a && not b) ≡ false → whole m us ≡ false
+      go false p b q e = ill_stood p
+      go true p true q e = ill_apart q
+      go true p false q e = cc

@@ -1,5 +1,5 @@
 // Whether a game is lawful on its board.
-ghost use Rattle.std.specs.Prelude.{◌≡◌, ℕ, ◌≤◌, Bool, true, false, ◌&&◌, ◌||◌, map, length, ◌==◌};
+ghost use Rattle.std.specs.Prelude.{◌≡◌, ℕ, ◌≤◌, Bool, true, false, not, ◌&&◌, ◌||◌, map, length, ◌==◌};
 ghost use Rattle.values.specs.Fold.{all, distinct, those};
 ghost use Rattle.geography.specs.RegionSet.{has};
 ghost use Rattle.board.specs.Board.{stands};
@@ -20,6 +20,13 @@ fn stands(atlas: &Atlas, u: Unit) -> bool
     atlas.can_stand(u.fleet, u.region) && u.power < 7
 }
 
+// Where its kind can be, and in a region that none has taken.
+fn fits(atlas: &Atlas, u: Unit, taken: RegionSet) -> bool
+    ensures { result ≡ (stands (board_of atlas.now) u && not (has taken u.region)) }
+{
+    stands(atlas, u) && !taken.contains(u.region)
+}
+
 // No two in one region, and each where its kind can be.
 pub fn well_placed<P: Standing>(atlas: &Atlas, pieces: &[P]) -> bool
     ensures { result ≡ (distinct (places (map P.piece pieces.now)) && all (stands (board_of atlas.now)) (map P.piece pieces.now)) }
@@ -27,7 +34,7 @@ pub fn well_placed<P: Standing>(atlas: &Atlas, pieces: &[P]) -> bool
     let mut taken = RegionSet::EMPTY;
     for i in (0..pieces.len()).rev() {
         let u = pieces[i].unit();
-        if !stands(atlas, u) || taken.contains(u.region) {
+        if !fits(atlas, u, taken) {
             return false;
         }
         taken.insert(u.region);

@@ -1,7 +1,6 @@
+use Rattle.std.proofs.Common.{rules}
 use Rattle.adjudicator.proofs.Standing.{stands}
 use Rattle.adjudicator.proofs.promised.begin.Goals as goal
 
 pub returns : goal.returns
-returns c =
-    let told = c.begin.ensures in
-    record { verdict = told.verdict; board = told.board; game = told.game; last = told.last; stands = stands c.begin.new.self.position }
+returns c = record { verdict = search rules; board = search rules; game = search rules; last = search rules; stands = search (rules, stands) }

@@ -1,15 +1,15 @@
+use Rattle.std.proofs.Common.{rules}
 use Rattle.calls.specs.Turn.{texts_in}
 use Rattle.adjudicator.proofs.Standing.{stands}
 use Rattle.adjudicator.proofs.promised.turn.Goals as goal
 
 pub returns : goal.returns
 returns c =
-    let told = c.turn.ensures in
     record {
-      verdict = told.verdict;
-      board = told.board;
-      game = told.game;
-      last = told.last;
+      verdict = search rules;
+      board = search rules;
+      game = search rules;
+      last = search rules;
       promise = (stands c.args.referee.now.position).turns (texts_in c.args.words.now);
-      stands = stands c.turn.new.self.position;
+      stands = search (rules, stands);
     }
