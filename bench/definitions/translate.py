@@ -24,7 +24,7 @@ ROOTS = [
 ]
 LIBRARY = {"Rattle.std.specs.Prelude"}
 VARIANTS = {"Some", "None", "Ok", "Err"}
-LIBRARY_ARITY = {"cond": 3, "not": 1, "nat_eq": 2, "nat_lt": 2, "nat_le": 2, "leb": 2, "ltb": 2, "length": 1, "slice_index": 2, "slice_index_or": 3, "get_or": 3, "take": 2, "drop": 2, "map": 2, "suc": 1}
+LIBRARY_ARITY = {"cond": 3, "not": 1, "nat_eq": 2, "nat_lt": 2, "nat_le": 2, "length": 1, "slice_index": 2, "slice_index_or": 3, "get_or": 3, "take": 2, "drop": 2, "map": 2, "suc": 1}
 # Precedence, and which way it groups.
 OPERATORS = {"∷": (5, "r"), "++": (5, "r"), "==": (4, "l"), "&&": (3, "l"), "||": (2, "l"), "+": (6, "l"), "-": (6, "l"), "*": (7, "l"), "/": (7, "l"), "%": (7, "l"), "^": (8, "r")}
 TOKEN = re.compile(r"\s+|--[^\n]*|(λ|→|∷|\+\+|&&|\|\||==|≡|×|[(){};,=]|\.\w[\w-]*|\d+|[^\s(){};,.=∷]+(?:\.(?=\s))?|\.)")

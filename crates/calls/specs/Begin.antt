@@ -1,5 +1,5 @@
 -- A board and a game from words, and the verdict on them. Assumes nothing.
-use Rattle.std.specs.Prelude.{ℕ, ◌+◌, ◌*◌, Bool, cond, not, ◌&&◌, ltb, leb, List, length, drop, ◌==◌, nat_le, nat_lt}
+use Rattle.std.specs.Prelude.{ℕ, ◌+◌, ◌*◌, Bool, cond, not, ◌&&◌, List, length, drop, ◌==◌, nat_le, nat_lt}
 use Rattle.values.specs.Fold.{those, is_in}
 use Rattle.geography.specs.declared.links.Edge.{Edge}
 use Rattle.board.specs.declared.region.Kind.{Kind}
@@ -116,9 +116,9 @@ game_in ws =
 -- each word is one that means something: a kind, 0 or 1, a power, a phase, a region of the board
 abbrev pub words_mean : List ℕ → Bool
 words_mean ws =
-    every_entry (region_count ws) 3 good_region (region_words ws) && (every_entry (unit_count ws) 3 good_unit (unit_words ws) && (every_entry (region_count ws) 1 (λ vs. leb (at vs 0) powers) (owner_words ws) &&
+    every_entry (region_count ws) 3 good_region (region_words ws) && (every_entry (unit_count ws) 3 good_unit (unit_words ws) && (every_entry (region_count ws) 1 (λ vs. nat_le (at vs 0) powers) (owner_words ws) &&
     (nat_lt (at (phase_words ws) 0) 5 && (every_entry (out_count ws) 4 (λ vs. good_unit vs && nat_le (at vs 3) (region_count ws)) (out_words ws) &&
-    every_entry (barred_count ws) 1 (λ vs. ltb (at vs 0) (region_count ws)) (drop 1 (barred_words ws))))))
+    every_entry (barred_count ws) 1 (λ vs. nat_lt (at vs 0) (region_count ws)) (drop 1 (barred_words ws))))))
 
 -- first whether the words fit their counts, then whether board and game are lawful
 abbrev pub begin_verdict : List ℕ → Verdict

@@ -1,5 +1,5 @@
 -- What the code asks of words before it makes entries of them; and board and game as the parts give them. Assumes nothing.
-use Rattle.std.specs.Prelude.{◌≡◌, ℕ, ◌*◌, ◌≤◌, Bool, ◌&&◌, ltb, leb, List, length, nat_le, nat_lt}
+use Rattle.std.specs.Prelude.{◌≡◌, ℕ, ◌*◌, ◌≤◌, Bool, ◌&&◌, List, length, nat_le, nat_lt}
 use Rattle.values.specs.Fold.{those, is_in}
 use Rattle.board.specs.Board.{Board, good_board, powers}
 use Rattle.game.specs.Game.{Game}
@@ -56,9 +56,9 @@ board_good s = every_entry s.front.regions.count 3 good_region s.front.regions.w
 -- the words of the game mean something
 abbrev pub game_means : Sections → Bool
 game_means s =
-    every_entry s.front.units.count 3 good_unit s.front.units.words.now && (every_entry s.front.owners.count 1 (λ vs. leb (at vs 0) powers) s.front.owners.words.now &&
+    every_entry s.front.units.count 3 good_unit s.front.units.words.now && (every_entry s.front.owners.count 1 (λ vs. nat_le (at vs 0) powers) s.front.owners.words.now &&
     (nat_lt s.phase 5 && (every_entry s.dislodged.count 4 (λ vs. good_unit vs && nat_le (at vs 3) s.front.regions.count) s.dislodged.words.now &&
-    every_entry s.barred.count 1 (λ vs. ltb (at vs 0) s.front.regions.count) s.barred.words.now)))
+    every_entry s.barred.count 1 (λ vs. nat_lt (at vs 0) s.front.regions.count) s.barred.words.now)))
 
 -- and it is lawful on the board
 abbrev pub game_good : Board → Sections → Bool

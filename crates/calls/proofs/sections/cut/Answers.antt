@@ -29,7 +29,7 @@ returns-then-barred-gt128 c =
     let tail = c.after.result.now in
     back_misfit ws (elim c.then-barred-gt128.branch [
       | then-barred-gt128-via-then-barred-gt128 w ↦ barred_many ws rest is tail c.after.ensures.words w.if-barred-gt128.true
-      | then-barred-gt128-via-else-barred-gt128+then-body-barred w ↦ barred_unlike ws rest is tail c.after.ensures.words (omega arith) w.if-body-barred.true
+      | then-barred-gt128-via-else-barred-gt128+then-body-barred w ↦ barred_unlike ws rest is tail c.after.ensures.words (omega arith) (omega arith)
     ])
 
 pub returns : goal.returns

@@ -6,7 +6,7 @@ use Rattle.tables.proofs.Placement.{stand_at}
 use Rattle.texts.proofs.orders.fresh.Goals as goal
 
 pub fresh_one-requires : goal.fresh_one-requires
-fresh_one-requires c = (stand_at (board_of c.args.atlas.now) c.args.units.now c.loop-u.u-index c.requires (omega arith)).power
+fresh_one-requires c = (stand_at (board_of c.args.atlas.now) c.args.units.now _ c.requires (omega arith)).power
 
 pub loop-u-preserved : goal.loop-u-preserved
 loop-u-preserved c = search (rules, unit_more, append_assoc)

@@ -21,7 +21,7 @@ loop-p-preserved c =
     let us = vec_items c.loop-p.standing in
     let is = c.in_ok-standing-2.ensures ∙ ap (winter_of m owners ws p) c.as_slice.ensures.value in (
       is ∙ ap (winter_of m owners ws p) c.loop-p.invariant.0 ∙ sym (winters_more m owners ws p c.args.units.now),
-      subst (λ l. all (stands m) l ≡ true) (sym is) (winter_stands m owners ws p us c.loop-p-test.true c.loop-p.invariant.1),
+      subst (λ l. all (stands m) l ≡ true) (sym is) (winter_stands m owners ws p us (omega arith) c.loop-p.invariant.1),
     )
 
 pub returns : goal.returns
