@@ -1,3 +1,5 @@
 pub mod TriTables
 pub mod SpanMeaning
 pub mod Shuffled
+pub mod Chains
+pub mod Backwards
