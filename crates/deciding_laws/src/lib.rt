@@ -11,99 +11,71 @@ ghost use Rattle.deciding_laws.specs.Answers.{AnswersKeepRules, DecidedIsNecessa
 ghost use Rattle.deciding_laws.specs.Promises.{DecidingIsRight};
 
 // Nothing is open in an outcome, and everything in it is as all the others decide it.
-pub fn outcome_consistent_stands() -> u8
+pub fn outcome_consistent_stands()
     ensures { OutcomeConsistent }
-{
-    0
-}
+{}
 
 // What rounds decide is so in every consistent assignment.
-pub fn forced_stands() -> u8
+pub fn forced_stands()
     ensures { Forced }
-{
-    0
-}
+{}
 
 // The same after the paradox rule, with the same armies stranded.
-pub fn forced_after_paradox_stands() -> u8
+pub fn forced_after_paradox_stands()
     ensures { ForcedAfterParadox }
-{
-    0
-}
+{}
 
 // Whoever is dislodged is so by one move, of a foreign power.
-pub fn dislodged_by_one_stands() -> u8
+pub fn dislodged_by_one_stands()
     ensures { DislodgedByOne }
-{
-    0
-}
+{}
 
 // Rounds only decide more, and end after as many as there are units.
-pub fn rounds_end_stands() -> u8
+pub fn rounds_end_stands()
     ensures { RoundsEnd }
-{
-    0
-}
+{}
 
 // After the paradox rule there is no second paradox.
-pub fn paradox_once_stands() -> u8
+pub fn paradox_once_stands()
     ensures { ParadoxOnce }
-{
-    0
-}
+{}
 
 // What is open when all is settled goes round in rings.
-pub fn rings_only_stands() -> u8
+pub fn rings_only_stands()
     ensures { RingsOnly }
-{
-    0
-}
+{}
 
 // After the moves no two units stand in one region.
-pub fn units_apart_stands() -> u8
+pub fn units_apart_stands()
     ensures { UnitsApart }
-{
-    0
-}
+{}
 
 // Where everything is yes or no, the rules with spans say what the plain rules say.
-pub fn plain_agrees_stands() -> u8
+pub fn plain_agrees_stands()
     ensures { PlainAgrees }
-{
-    0
-}
+{}
 
 // The answers keep the plain rules.
-pub fn answers_keep_rules_stands() -> u8
+pub fn answers_keep_rules_stands()
     ensures { AnswersKeepRules }
-{
-    0
-}
+{}
 
 // What rounds decide is so in every assignment that keeps the plain rules.
-pub fn decided_is_necessary_stands() -> u8
+pub fn decided_is_necessary_stands()
     ensures { DecidedIsNecessary }
-{
-    0
-}
+{}
 
 // By the plain rules, whoever is dislodged is so by one move, of a foreign power.
-pub fn ruled_dislodges_by_one_stands() -> u8
+pub fn ruled_dislodges_by_one_stands()
     ensures { RuledDislodgesByOne }
-{
-    0
-}
+{}
 
 // Where nothing is left open, one assignment keeps the rules: the answers.
-pub fn one_answer_stands() -> u8
+pub fn one_answer_stands()
     ensures { OneAnswer }
-{
-    0
-}
+{}
 
 // All that is promised of deciding.
-pub fn deciding_is_right() -> u8
+pub fn deciding_is_right()
     ensures { DecidingIsRight }
-{
-    0
-}
+{}

@@ -4,15 +4,11 @@
 ghost use Rattle.promise.specs.Promise.{MainPromise, TurnKept};
 
 // Of every good board, every lawful game, anything written and any calls.
-pub fn main_promise_stands() -> u8
+pub fn main_promise_stands()
     ensures { MainPromise }
-{
-    0
-}
+{}
 
 // Of one phase, from any lawful game on a good board.
-pub fn turn_promise_stands() -> u8
+pub fn turn_promise_stands()
     ensures { TurnKept }
-{
-    0
-}
+{}

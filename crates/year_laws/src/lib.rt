@@ -10,99 +10,71 @@ ghost use Rattle.year_laws.specs.OwnerLaw.{AutumnOwners, OwnersStay};
 ghost use Rattle.year_laws.specs.WinterLaw.{WinterLaw};
 
 // Whatever is written, a lawful game on a good board leads to a lawful one.
-pub fn lawful_stands() -> u8
+pub fn lawful_stands()
     ensures { LawfulKept }
-{
-    0
-}
+{}
 
 // And so over any number of phases.
-pub fn lawful_played_stands() -> u8
+pub fn lawful_played_stands()
     ensures { LawfulPlayed }
-{
-    0
-}
+{}
 
 // The test for lawful games says just what the named facts say.
-pub fn lawful_tested_stands() -> u8
+pub fn lawful_tested_stands()
     ensures { LawfulTested }
-{
-    0
-}
+{}
 
 // No more units, and no more dislodged, than regions; every number in a lawful game is one that there is.
-pub fn lawful_bounded_stands() -> u8
+pub fn lawful_bounded_stands()
     ensures { LawfulBounded }
-{
-    0
-}
+{}
 
 // Nobody gains a unit but in winter.
-pub fn nobody_gains_stands() -> u8
+pub fn nobody_gains_stands()
     ensures { NobodyGains }
-{
-    0
-}
+{}
 
 // Moves lose nobody: whoever is dislodged still waits.
-pub fn moves_lose_nobody_stands() -> u8
+pub fn moves_lose_nobody_stands()
     ensures { MovesLoseNobody }
-{
-    0
-}
+{}
 
 // After a winter nobody has more units than centres.
-pub fn winter_balances_stands() -> u8
+pub fn winter_balances_stands()
     ensures { WinterBalances }
-{
-    0
-}
+{}
 
 // After moves there stand just those whom nobody dislodged, where their moves took them.
-pub fn moves_stand() -> u8
+pub fn moves_stand()
     ensures { MoveLaw }
-{
-    0
-}
+{}
 
 // After moves just those are dislodged into whose region another moved while they stayed.
-pub fn dislodged_stand() -> u8
+pub fn dislodged_stand()
     ensures { DislodgeLaw }
-{
-    0
-}
+{}
 
 // Just those regions are barred to which some move with a path came to nothing.
-pub fn barred_stands() -> u8
+pub fn barred_stands()
     ensures { BarredLaw }
-{
-    0
-}
+{}
 
 // After retreats there stand just those who stood before and those who survived.
-pub fn retreats_stand() -> u8
+pub fn retreats_stand()
     ensures { RetreatLaw }
-{
-    0
-}
+{}
 
 // After the autumn's retreats a centre belongs to whoever stands on it, else to whom it belonged.
-pub fn autumn_owners_stand() -> u8
+pub fn autumn_owners_stand()
     ensures { AutumnOwners }
-{
-    0
-}
+{}
 
 // At no other time does a centre change hands.
-pub fn owners_stay_stands() -> u8
+pub fn owners_stay_stands()
     ensures { OwnersStay }
-{
-    0
-}
+{}
 
 // Who goes and who comes in winter.
-pub fn winter_stands() -> u8
+pub fn winter_stands()
     ensures { WinterLaw }
-{
-    0
-}
+{}
