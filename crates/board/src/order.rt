@@ -2,7 +2,7 @@
 ghost use Rattle.std.specs.Prelude.{◌≡◌, ℕ};
 ghost use Rattle.board.specs.Order.{goes_to, is_move, is_convoyed, aim, supports_move, supports_hold, convoys, is_support};
 
-#[derive(Clone, Copy)]
+#[derive(Clone, Copy, PartialEq, Eq)]
 pub enum Order {
     Hold,
     // To a region, step by step or over water by a chain of fleets (the club: by water).
@@ -60,27 +60,18 @@ impl Order {
     pub fn supports_hold(self, r: u8) -> bool
         ensures { result ≡ supports_hold r self }
     {
-        match self {
-            Order::SupportHold { at } => r == at,
-            _ => false,
-        }
+        self == Order::SupportHold { at: r }
     }
 
     pub fn supports_move(self, f: u8, t: u8) -> bool
         ensures { result ≡ supports_move f t self }
     {
-        match self {
-            Order::SupportMove { from, to } => f == from && t == to,
-            _ => false,
-        }
+        self == Order::SupportMove { from: f, to: t }
     }
 
     pub fn convoys(self, f: u8, t: u8) -> bool
         ensures { result ≡ convoys f t self }
     {
-        match self {
-            Order::Convoy { from, to } => f == from && t == to,
-            _ => false,
-        }
+        self == Order::Convoy { from: f, to: t }
     }
 }

@@ -2,7 +2,7 @@
 ghost use Rattle.std.specs.Prelude.{◌≡◌};
 ghost use Rattle.board.specs.Board.{marchable, sailable, is_coast, is_sea, can_stand, land};
 
-#[derive(Clone, Copy)]
+#[derive(Clone, Copy, PartialEq, Eq)]
 pub enum Kind {
     Land,
     Coast,
@@ -22,31 +22,25 @@ impl Kind {
     pub fn marchable(self) -> bool
         ensures { result ≡ marchable self }
     {
-        match self {
-            Kind::Land | Kind::Coast => true,
-            Kind::Sea => false,
-        }
+        self != Kind::Sea
     }
 
     pub fn sailable(self) -> bool
         ensures { result ≡ sailable self }
     {
-        match self {
-            Kind::Coast | Kind::Sea => true,
-            Kind::Land => false,
-        }
+        self != Kind::Land
     }
 
     pub fn is_coast(self) -> bool
         ensures { result ≡ is_coast self }
     {
-        matches!(self, Kind::Coast)
+        self == Kind::Coast
     }
 
     pub fn is_sea(self) -> bool
         ensures { result ≡ is_sea self }
     {
-        matches!(self, Kind::Sea)
+        self == Kind::Sea
     }
 }
 

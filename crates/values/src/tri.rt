@@ -2,7 +2,7 @@
 ghost use Rattle.std.specs.Prelude.{◌≡◌, Bool};
 ghost use Rattle.values.specs.Tri.{not_tri, and_tri, or_tri, sure, is_yes, is_no, is_open};
 
-#[derive(Clone, Copy, PartialEq, Eq)]
+#[derive(Clone, Copy, PartialEq, Eq, PartialOrd, Ord)]
 pub enum Tri {
     No,
     Open,
@@ -32,21 +32,13 @@ impl Tri {
     pub fn and(self, other: Tri) -> Tri
         ensures { result ≡ and_tri self other }
     {
-        match (self, other) {
-            (Tri::No, _) | (_, Tri::No) => Tri::No,
-            (Tri::Yes, b) => b,
-            (Tri::Open, _) => Tri::Open,
-        }
+        self.min(other)
     }
 
     pub fn or(self, other: Tri) -> Tri
         ensures { result ≡ or_tri self other }
     {
-        match (self, other) {
-            (Tri::Yes, _) | (_, Tri::Yes) => Tri::Yes,
-            (Tri::No, b) => b,
-            (Tri::Open, _) => Tri::Open,
-        }
+        self.max(other)
     }
 
     pub fn is_yes(self) -> bool
