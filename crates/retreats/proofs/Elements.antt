@@ -1,10 +1,14 @@
--- One element on in a list, and an option as a list of one or none. Assumes nothing.
+-- One element on in a list, where a standing unit is, and an option as a list of one or none. Assumes nothing.
 use Rattle.std.proofs.Common.{◌≡◌, ℕ, ◌+◌, ◌<◌, ◌≤◌, Bool, true, false, cond, ◌||◌, eqb, List, [], ◌∷◌, ◌++◌, length, get_or, drop, slice_get, Ok, Err, Result, IfOk, Some, None, Option, sym, refl, ap, ◌∙◌, arith}
 use Rattle.std.specs.List.{cons_option}
 use Rattle.std.specs.Option.{option_eq, option_to_list}
 use Rattle.std.proofs.lemmas.List.{drop_more, drop_all}
-use Rattle.values.specs.Fold.{any}
+use Rattle.values.specs.Fold.{any, all}
+use Rattle.board.specs.declared.unit.Unit.{Unit}
+use Rattle.board.specs.Board.{Board, good_board, stands}
 use Rattle.game.specs.Retreats.{is_just}
+use Rattle.tables.proofs.Folds.{no_unit}
+use Rattle.tables.proofs.Placement.{stand_at, board_small}
 
 -- ---- one element on: what held before, or holds of one that is left
 pub or_turned : (a b : Bool) → (a || b) ≡ (b || a)
@@ -24,6 +28,10 @@ or_false a b e = grind arith
 pub any_done : {A : Type 0} (test : A → Bool) (xs : List A) (i : ℕ) (before whole : Bool) → length xs ≤ i → (before || any test (drop i xs)) ≡ whole → before ≡ whole
 unfolding any
 any_done test xs i before whole h so = sym (or_false before (any test (drop i xs)) (ap (any test) (drop_all i xs h))) ∙ so
+
+-- the region of a unit that stands is one of a RegionSet
+pub region_small : (m : Board) (us : List Unit) (i : ℕ) → good_board m ≡ true → all (stands m) us ≡ true → i < length us → (get_or us i no_unit).region < 128
+region_small m us i good e h = let p = stand_at m us i e h in let b = board_small m good in omega arith
 
 -- a test of equality with Some
 pub just_is : (n : ℕ) (o : Option ℕ) → option_eq eqb o (Some n) ≡ is_just n o

@@ -1,6 +1,6 @@
 -- The numbers below a bound, as ranges and chains of iterators give them. Assumes nothing.
 use Rattle.std.proofs.Common.{◌≡◌, ℕ, zero, suc, ◌+◌, ◌<◌, ◌≤◌, Bool, true, ◌||◌, ltb, eqb, List, [], ◌∷◌, ◌++◌, length, get_or, take, map, filter, Some, None, Option, sym, refl, ap, ◌∙◌, arith}
-use Rattle.std.specs.List.{range_with_len, filter_map, cons_option}
+use Rattle.std.specs.List.{range_with_len, filter_map}
 use Rattle.std.specs.Option.{option_to_list}
 use Rattle.std.specs.Iterator.{Yields}
 use Rattle.std.proofs.lemmas.Iterator.{YieldsList}
@@ -8,6 +8,7 @@ use Rattle.std.proofs.lemmas.Iterator.Consumers.{YieldsList-turn, YieldsList-end
 use Rattle.std.proofs.lemmas.Bool.{and_from, lt-ltb, ltb-true}
 use Rattle.values.specs.Fold.{gather, any, all, each, select, count_up, those, is_in}
 use Rattle.values.proofs.Chains.{select_is}
+use Rattle.retreats.proofs.Elements.{added}
 use Rattle.tables.proofs.Folds.{all_append, all_take, all-select, all-at}
 
 range_is : (a n : ℕ) → range_with_len a n ≡ count_up a n
@@ -41,10 +42,6 @@ in_more q (k ∷ ns) n = ap (λ b. eqb q k || b) (in_more q ns n) ∙ swap (eqb 
     swap a b c = grind arith
 
 -- ---- what the numbers give
-added : {A : Type 0} (o : Option A) (xs : List A) → cons_option o xs ≡ option_to_list o ++ xs
-added None xs = refl
-added (Some x) xs = refl
-
 each_is : {A : Type 0} (give : ℕ → Option A) (ns : List ℕ) → filter_map give ns ≡ each (λ n. option_to_list (give n)) ns
 unfolding each
 each_is give [] = refl

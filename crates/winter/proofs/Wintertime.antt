@@ -1,13 +1,11 @@
 -- Who goes and who comes in a winter, as the code's sets and tables say it. Assumes nothing.
-use Rattle.std.proofs.Common.{◌≡◌, ℕ, suc, ◌+◌, ◌-◌, ◌<◌, ◌≤◌, Bool, true, false, cond, not, ◌&&◌, ◌||◌, ltb, List, [], ◌∷◌, ◌++◌, length, get_or, take, drop, filter, slice_get, eqb, Some, None, Option, sym, refl, ap, ◌∙◌, arith}
+use Rattle.std.proofs.Common.{◌≡◌, ℕ, suc, ◌+◌, ◌-◌, ◌<◌, Bool, true, false, cond, not, ◌&&◌, ltb, List, ◌++◌, length, get_or, take, filter, slice_get, Some, None, Option, refl, ap, ◌∙◌, arith}
 use Rattle.std.specs.List.{range_with_len}
-use Rattle.std.specs.Option.{option_eq, option_to_list}
-use Rattle.std.proofs.lemmas.List.{drop_more, drop_all}
+use Rattle.std.specs.Option.{option_to_list}
 use Rattle.std.proofs.lemmas.Bool.{and_parts, and_from, lt-ltb}
-use Rattle.values.specs.Fold.{any, all, select, those, is_in}
+use Rattle.values.specs.Fold.{all, select, those, is_in}
 use Rattle.geography.specs.declared.region_set.RegionSet.{RegionSet}
-use Rattle.geography.specs.RegionSet.{has, Holds, empty}
-use Rattle.geography.proofs.Bitwise.{has_none}
+use Rattle.geography.specs.RegionSet.{has, Holds}
 use Rattle.board.specs.Board.{Board, stands, can_stand, region_at}
 use Rattle.board.specs.declared.unit.Unit.{Unit}
 use Rattle.game.specs.declared.text.Written.{Written}
@@ -15,6 +13,7 @@ use Rattle.game.specs.Texts.{text_for}
 use Rattle.game.specs.Winter.{of_power, units_of, centres_of, has_unit, struck, disband_order, disbanded, build_in, may_build, build_order, built, winter_of, winters}
 use Rattle.game.specs.Retreats.{occupied, is_just}
 use Rattle.winter.proofs.Choosing.{those_is, chosen_below}
+use Rattle.retreats.proofs.Elements.{one_if}
 use Rattle.tables.proofs.Folds.{all_append, all_take, all-select, all-each, all_if}
 
 -- who goes, as the set of the power's regions says it
@@ -30,38 +29,6 @@ order_below m p ws us most i d h = chosen_below (length m.regions) (λ r. has_un
 pub disbanded_is : (m : Board) (p k : ℕ) (ws : List Written) (us : List Unit) (gone : RegionSet) → Holds gone (take k (disband_order m p ws us)) →
     select (λ u. not (of_power p u && has gone u.region)) us ≡ disbanded m p ws k us
 disbanded_is m p k ws us gone h = λ i. select (λ u. not (of_power p u && h u.region i)) us
-
-or_false : (a b : Bool) → b ≡ false → (a || b) ≡ a
-or_false a b e = grind arith
-
-pub taken_from : (s : RegionSet) (us : List Unit) → ((r : ℕ) → has s r ≡ (occupied r us || has empty r)) → (r : ℕ) → has s r ≡ occupied r us
-taken_from s us h r = h r ∙ or_false (occupied r us) (has empty r) (has_none r)
-
--- ---- what a chain, a test or a read says, in the words of the rules
-pub just_is : (n : ℕ) (o : Option ℕ) → option_eq eqb o (Some n) ≡ is_just n o
-just_is n None = refl
-just_is n (Some k) = grind arith
-
--- one element on: what held before, or holds of one that is left
-pub any_more : {A : Type 0} (test : A → Bool) (xs : List A) (i : ℕ) (d : A) (before after whole : Bool) → i < length xs → after ≡ (test (get_or xs i d) || before) → (before || any test (drop i xs)) ≡ whole → (after || any test (drop (i + 1) xs)) ≡ whole
-unfolding any
-any_more test xs i d before after whole h adds so =
-    ap (λ b. b || any test (drop (i + 1) xs)) adds ∙ swap (test (get_or xs i d)) before (any test (drop (i + 1) xs)) ∙ ap (λ ys. before || any test ys) (sym (drop_more xs i d h)) ∙ so
-  where
-    swap : (a b c : Bool) → ((a || b) || c) ≡ (b || (a || c))
-    swap a b c = grind arith
-
-pub any_done : {A : Type 0} (test : A → Bool) (xs : List A) (i : ℕ) (before whole : Bool) → length xs ≤ i → (before || any test (drop i xs)) ≡ whole → before ≡ whole
-unfolding any
-any_done test xs i before whole h so = sym (or_false before (any test (drop i xs)) (ap (any test) (drop_all i xs h))) ∙ so
-
-pub first_of : {A : Type 0} (o : Option A) (xs : List A) → option_to_list o ≡ xs → o ≡ slice_get xs 0
-first_of None xs e = ap (λ ys. slice_get ys 0) e
-first_of (Some x) xs e = ap (λ ys. slice_get ys 0) e
-
-one_if : {A : Type 0} (b : Bool) (x : A) → option_to_list (slice_get (cond b (x ∷ []) []) 0) ≡ cond b (x ∷ []) []
-one_if true x = refl
-one_if false x = refl
 
 pub one_at_most : (m : Board) (p : ℕ) (owners : List (Option ℕ)) (us : List Unit) (r : ℕ) (wanted : Option Bool) → option_to_list (slice_get (may_build m p owners us r wanted) 0) ≡ may_build m p owners us r wanted
 one_at_most m p owners us r None = refl

@@ -17,19 +17,19 @@ pub fn winter_of(
     atlas: &Atlas,
     texts: &Texts,
     owners: &[Option<u8>],
-    p: u8,
+    power: u8,
     units: &[Unit],
 ) -> Result<Vec<Unit>, AllocError>
-    requires power { p < 7 }
+    requires power { power < 7 }
     requires stand { all (stands (board_of atlas.now)) units.now ≡ true }
-    ensures { IfOk result (λ v. v.items ≡ winter_of (board_of atlas.now) owners.now texts.now.list.items p units.now) }
+    ensures { IfOk result (λ v. v.items ≡ winter_of (board_of atlas.now) owners.now texts.now.list.items power units.now) }
 {
     let adjustment = Adjustment {
         atlas,
         texts,
         owners,
         units,
-        power: p,
+        power,
         taken: with_units(atlas, units, RegionSet::EMPTY),
     };
     adjustment.units_after(heap)
@@ -47,8 +47,8 @@ pub fn units_after_winter(
     ensures { IfOk result (λ v. v.items ≡ units_after_winter (board_of atlas.now) owners.now texts.now.list.items units.now) }
 {
     let mut standing = Vec::from_slice(heap, units)?;
-    for p in 0..7u8 {
-        standing = winter_of(heap, atlas, texts, owners, p, standing.as_slice())?;
+    for power in 0..7u8 {
+        standing = winter_of(heap, atlas, texts, owners, power, standing.as_slice())?;
     }
     Ok(standing)
 }

@@ -4,19 +4,14 @@ use Rattle.board.specs.declared.unit.Unit.{Unit}
 use Rattle.board.specs.Atlas.{board_of}
 use Rattle.game.specs.Retreats.{occupied}
 use Rattle.tables.proofs.Folds.{no_unit}
-use Rattle.tables.proofs.Placement.{stand_at, board_small}
-use Rattle.retreats.proofs.Elements.{or_turned, any_more, any_done}
+use Rattle.retreats.proofs.Elements.{region_small, or_turned, any_more, any_done}
 use Rattle.retreats.proofs.retreats.with_units.Goals as goal
 
 pub loop-u-init : goal.loop-u-init
 loop-u-init c = λ r. or_turned (has c.args.start r) (occupied r c.args.units.now)
 
 pub insert-requires : goal.insert-requires
-insert-requires c =
-    let m = board_of c.args.atlas.now in
-    let p = stand_at m c.args.units.now c.loop-u.u-index c.requires (omega arith) in
-    let b = board_small m c.args.atlas.now.good in
-    omega arith
+insert-requires c = region_small (board_of c.args.atlas.now) c.args.units.now c.loop-u.u-index c.args.atlas.now.good c.requires (omega arith)
 
 pub loop-u-preserved : goal.loop-u-preserved
 loop-u-preserved c = λ r.

@@ -8,7 +8,8 @@ use Rattle.board.specs.Atlas.{board_of}
 use Rattle.game.specs.Texts.{text_for}
 use Rattle.game.specs.Winter.{may_build, build_in}
 use Rattle.winter.proofs.Choosing.{given_is}
-use Rattle.winter.proofs.Wintertime.{first_of, one_at_most}
+use Rattle.retreats.proofs.Elements.{first_of}
+use Rattle.winter.proofs.Wintertime.{one_at_most}
 use Rattle.winter.proofs.adjustment.Adjustment.build.Goals as goal
 
 pub returns : goal.returns

@@ -5,7 +5,7 @@ use Rattle.std.proofs.lemmas.Iterator.{YieldsList-from_slice}
 use Rattle.std.proofs.lemmas.Iterator.Consumers.{YieldsList-from_filter, count_from_yields_List}
 use Rattle.values.proofs.Chains.{number_is}
 use Rattle.game.specs.Retreats.{is_just}
-use Rattle.winter.proofs.Wintertime.{just_is}
+use Rattle.retreats.proofs.Elements.{just_is}
 use Rattle.winter.proofs.adjustment.Adjustment.centre_count.Goals as goal
 
 pub returns : goal.returns

@@ -5,18 +5,12 @@ use Rattle.board.specs.declared.unit.Unit.{Unit}
 use Rattle.board.specs.Atlas.{board_of}
 use Rattle.game.specs.Winter.{of_power, has_unit}
 use Rattle.tables.proofs.Folds.{no_unit}
-use Rattle.tables.proofs.Placement.{stand_at, board_small}
-use Rattle.winter.proofs.Wintertime.{any_more, any_done}
+use Rattle.retreats.proofs.Elements.{region_small, any_more, any_done}
 use Rattle.winter.proofs.adjustment.Adjustment.held.Goals as goal
 use Rattle.winter.proofs.adjustment.Adjustment.held.Goals.{then-self-u, else-self-u}
 
 pub insert-requires : goal.insert-requires
-insert-requires c =
-    let s = c.args.self.now in
-    let m = board_of s.atlas.now in
-    let p = stand_at m s.units.now c.loop-u.u-index s.units_stand (omega arith) in
-    let b = board_small m s.atlas.now.good in
-    omega arith
+insert-requires c = let s = c.args.self.now in region_small (board_of s.atlas.now) s.units.now c.loop-u.u-index s.atlas.now.good s.units_stand (omega arith)
 
 pub loop-u-preserved : goal.loop-u-preserved
 loop-u-preserved c = λ r.

@@ -3,7 +3,7 @@ use Rattle.std.specs.Option.{option_eq, option_map, unwrap_or}
 use Rattle.board.specs.declared.region.Region.{Region}
 use Rattle.board.specs.Board.{nowhere}
 use Rattle.game.specs.Retreats.{is_just}
-use Rattle.winter.proofs.Wintertime.{just_is}
+use Rattle.retreats.proofs.Elements.{just_is}
 use Rattle.winter.proofs.adjustment.Adjustment.is_home.Goals as goal
 
 pub returns : goal.returns

@@ -1,7 +1,7 @@
 use Rattle.std.proofs.Common.{◌≡◌, None, Some, Option, ℕ, eqb, refl, ap, ◌∙◌, arith, rules}
 use Rattle.std.specs.Option.{option_eq, option_flatten, unwrap_or}
 use Rattle.game.specs.Retreats.{is_just}
-use Rattle.winter.proofs.Wintertime.{just_is}
+use Rattle.retreats.proofs.Elements.{just_is}
 use Rattle.winter.proofs.adjustment.Adjustment.owns.Goals as goal
 
 flat_is : (o : Option (Option ℕ)) → option_flatten o ≡ unwrap_or o None
