@@ -2,6 +2,8 @@
 #![tactic(auto)]
 
 pub mod flood;
+pub mod filling;
 pub mod table;
 
+pub use filling::refill;
 pub use table::{dislodged_into, paths_into};

@@ -6,6 +6,7 @@ ghost use Rattle.assignment.specs.Lookup.{Indexed};
 ghost use Rattle.paths.specs.Paths.{path, paths_of, dislodged_of};
 
 use super::flood::chain;
+use super::filling::refill;
 use assignment::{Lookup, Resolution, dislodged};
 use board::Atlas;
 use values::Tri;
@@ -17,10 +18,7 @@ pub fn dislodged_into(lookup: &Lookup, xs: &[Resolution], out: &mut Vec<Tri>)
     ensures len { vec_len out.new ≡ length xs.now }
     ensures cap { vec_capacity out.new ≡ vec_capacity out.old }
 {
-    out.clear();
-    for x in xs {
-        out.push_reserved(dislodged(lookup, *x, xs));
-    }
+    refill(out, xs.iter().map(|x| dislodged(lookup, *x, xs)));
 }
 
 fn path(atlas: &Atlas, dislodged: &[Tri], x: Resolution, xs: &[Resolution]) -> Tri
