@@ -1,2 +1,4 @@
 pub mod Flooding
 pub mod Refilled
+pub mod InStep
+pub mod Inside
