@@ -106,3 +106,13 @@ module _ (m : Board) (p : Resolution → Bool) (f t : ℕ) where
       held a true h = ap (λ b. b || true) (h refl) ∙ sym (h refl)
       held true false h = refl
       held false false h = refl
+
+-- a path over water, by the two chains
+pub path_water : (m : Board) (x : Resolution) (xs : List Resolution) (t : ℕ) → t ≡ aim x.order → true ≡ is_convoyed x.order → x.stranded ≡ false → (sure maybe : Bool) →
+    sure ≡ chain m (surely_stays xs) x.unit.region t xs → maybe ≡ chain m (may_stay xs) x.unit.region t xs → cond sure Yes (cond maybe Open No) ≡ path m x xs
+path_water m x xs t to water free sure maybe p q =
+    let sure-is = p ∙ ap (λ r. chain m (surely_stays xs) x.unit.region r xs) to in
+    let maybe-is = q ∙ ap (λ r. chain m (may_stay xs) x.unit.region r xs) to in
+    let held = sym free in
+    (λ i. cond (sure-is i) Yes (cond (maybe-is i) Open No)) ∙
+    (λ i. cond (not (water i)) Yes (cond (held i) No (cond (chain m (surely_stays xs) x.unit.region (aim x.order) xs) Yes (cond (chain m (may_stay xs) x.unit.region (aim x.order) xs) Open No))))

@@ -61,7 +61,8 @@ impl<'a, S: Staying> Crossing<'a, S> {
         ensures { (qs : List ℕ) → Holds seen qs → result ≡ lands (board_of self.now.water.atlas.now) (counts (S.stays self.now.fleets) self.now.water.xs.now) self.now.from self.now.to qs self.now.water.xs.now }
     {
         self.water.xs.iter().zip(self.water.dislodged).any(|(x, dislodged)| {
-            self.reaches(x, *dislodged, seen) && self.water.atlas.sail.joined(x.unit.region, self.to)
+            self.reaches(x, *dislodged, seen)
+                && self.water.atlas.sail.joined(x.unit.region, self.to)
         })
     }
 }

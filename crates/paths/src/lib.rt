@@ -2,8 +2,8 @@
 #![tactic(auto)]
 
 pub mod crossing;
-pub mod flood;
 pub mod filling;
+pub mod flood;
 pub mod staying;
 pub mod table;
 pub mod water;

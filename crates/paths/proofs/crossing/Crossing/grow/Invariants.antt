@@ -10,5 +10,5 @@ abbrev pub invariant-loop-x : goal.invariant-loop-x
 invariant-loop-x g l =
     ((q : ℕ) → has l.seen q ≡ true → has l.next q ≡ true) ×
     ((rs : List ℕ) → Holds l.seen rs → (q : ℕ) →
-        (has l.next q || is_in q (reached (board_of l.self.water.atlas.now) (counts (g.S.Staying.stays l.self.fleets) l.self.water.xs.now) l.self.from l.self.to rs (drop (length l.yielded) l.self.water.xs.now))) ≡
-        is_in q (reached (board_of l.self.water.atlas.now) (counts (g.S.Staying.stays l.self.fleets) l.self.water.xs.now) l.self.from l.self.to rs l.self.water.xs.now))
+    (has l.next q || is_in q (reached (board_of l.self.water.atlas.now) (counts (g.S.Staying.stays l.self.fleets) l.self.water.xs.now) l.self.from l.self.to rs (drop (length l.yielded) l.self.water.xs.now))) ≡
+    is_in q (reached (board_of l.self.water.atlas.now) (counts (g.S.Staying.stays l.self.fleets) l.self.water.xs.now) l.self.from l.self.to rs l.self.water.xs.now))
