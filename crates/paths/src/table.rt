@@ -2,24 +2,22 @@
 ghost use Rattle.std.specs.Prelude.{◌≡◌, ℕ, ◌<◌, ◌≤◌, length, vec_len, vec_capacity};
 ghost use Rattle.board.specs.Atlas.{board_of};
 ghost use Rattle.assignment.specs.Places.{Inside};
-ghost use Rattle.assignment.specs.Lookup.{Indexed};
 ghost use Rattle.paths.specs.Paths.{path, paths_of, dislodged_of};
 
 use super::filling::refill;
 use super::staying::{Perhaps, Surely};
 use super::water::Water;
-use assignment::{Lookup, Resolution, dislodged};
+use assignment::{Orders, Resolution};
 use board::Atlas;
 use values::Tri;
 
-pub fn dislodged_into(lookup: &Lookup, xs: &[Resolution], out: &mut Vec<Tri>)
-    requires indexed { Indexed lookup.now xs.now }
+pub fn dislodged_into(orders: Orders, out: &mut Vec<Tri>)
     requires room { 128 ≤ vec_capacity out.old }
-    ensures items { out.new.items ≡ dislodged_of xs.now }
-    ensures len { vec_len out.new ≡ length xs.now }
+    ensures items { out.new.items ≡ dislodged_of orders.entry.list.now }
+    ensures len { vec_len out.new ≡ length orders.entry.list.now }
     ensures cap { vec_capacity out.new ≡ vec_capacity out.old }
 {
-    refill(out, xs.iter().map(|x| dislodged(lookup, *x, xs)));
+    refill(out, orders.list.iter().map(|x| orders.dislodged(*x)));
 }
 
 fn path(water: Water, x: &Resolution) -> Tri
@@ -42,28 +40,21 @@ fn path(water: Water, x: &Resolution) -> Tri
 }
 
 // Every path into `out`; `dislodged` is filled on the way.
-pub fn paths_into(
-    atlas: &Atlas,
-    lookup: &Lookup,
-    xs: &[Resolution],
-    dislodged: &mut Vec<Tri>,
-    out: &mut Vec<Tri>,
-)
-    requires indexed { Indexed lookup.now xs.now }
-    requires inside { Inside xs.now }
+pub fn paths_into(atlas: &Atlas, orders: Orders, dislodged: &mut Vec<Tri>, out: &mut Vec<Tri>)
+    requires inside { Inside orders.list.now }
     requires scratch { 128 ≤ vec_capacity dislodged.old }
     requires room { 128 ≤ vec_capacity out.old }
-    ensures items { out.new.items ≡ paths_of (board_of atlas.now) xs.now }
-    ensures len { vec_len out.new ≡ length xs.now }
+    ensures items { out.new.items ≡ paths_of (board_of atlas.now) orders.entry.list.now }
+    ensures len { vec_len out.new ≡ length orders.entry.list.now }
     ensures cap { vec_capacity out.new ≡ vec_capacity out.old }
-    ensures table { dislodged.new.items ≡ dislodged_of xs.now }
+    ensures table { dislodged.new.items ≡ dislodged_of orders.entry.list.now }
     ensures scratch { vec_capacity dislodged.new ≡ vec_capacity dislodged.old }
 {
-    dislodged_into(lookup, xs, dislodged);
+    dislodged_into(orders, dislodged);
     let water = Water {
         atlas,
-        xs,
+        xs: orders.list,
         dislodged: dislodged.as_slice(),
     };
-    refill(out, xs.iter().map(|x| path(water, x)));
+    refill(out, water.xs.iter().map(|x| path(water, x)));
 }

@@ -9,10 +9,10 @@ use Rattle.paths.proofs.table.paths_into.Goals as goal
 
 pub refill-requires-clause-can : goal.refill-requires-clause-can
 refill-requires-clause-can c =
-    let xs = c.args.xs.now in
+    let xs = c.args.orders.list.now in
     (tt, serves_from_places (YieldsList-from_slice xs (cc)) (λ x q k. search rules) (λ x k l e. let h = inside_item xs k x.now c.requires.inside l e in search rules))
 
 pub returns-clause-items : goal.returns-clause-items
 returns-clause-items c =
-    let xs = c.args.xs.now in
+    let xs = c.args.orders.list.now in
     refilled c.refill.ensures.items (YieldsList-from_map _ (λ x. path (board_of c.args.atlas.now) x xs) (YieldsList-from_slice xs (cc)) refl (λ x r q k. search rules))
