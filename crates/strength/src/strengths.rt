@@ -6,7 +6,7 @@ ghost use Rattle.paths.specs.Paths.{path};
 ghost use Rattle.strength.specs.Strength.{head_to_head, vacates, against, attack_on, attack, prevent_of, prevent, hold_of, to_beat};
 
 use super::round::Round;
-use super::support::{ForHold, full, full_but, one_and_support};
+use super::support::{full, full_but, one_and_support};
 use assignment::{Orders, Resolution};
 use values::{Span, Tri};
 
@@ -78,7 +78,8 @@ pub fn hold_of(orders: Orders, y: Resolution) -> Span
     if y.order.is_move() {
         Span::either(y.value, Span::exactly(0), Span::exactly(1))
     } else {
-        one_and_support(&ForHold { at: y.unit.region }, orders)
+        let at = y.unit.region;
+        one_and_support(orders, at, |z| z.order.supports_hold(at))
     }
 }
 

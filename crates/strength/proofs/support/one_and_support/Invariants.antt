@@ -1,7 +1,10 @@
-use Rattle.std.proofs.Common.{◌≡◌, ◌+◌, ◌≤◌, length, drop}
+use Rattle.std.proofs.Common.{◌≡◌, ◌≤◌, drop, Bool}
 use Rattle.std.specs.List.{fold}
+use Rattle.std.specs.Fn.{FnReturnsAt}
 use Rattle.values.specs.Span.{sum, counted}
+use Rattle.assignment.specs.declared.resolution.Resolution.{Resolution}
 use Rattle.assignment.proofs.Aimed.{turn}
+use Rattle.strength.specs.Counting.{Counts}
 use Rattle.strength.specs.Strength.{support}
 use Rattle.strength.proofs.support.one_and_support.Given as goal
 
@@ -9,7 +12,7 @@ use Rattle.strength.proofs.support.one_and_support.Given as goal
 abbrev pub invariant-loop-i : goal.invariant-loop-i
 invariant-loop-i g l =
     record {
-      sum : fold (turn (g.S.Sought.test l.sought) (λ y rest. sum (counted y.value) rest) l.orders.list.now) l.acc (drop l.i-index l.i-items) ≡ support (g.S.Sought.test l.sought) l.orders.list.now;
+      sum : (test : Resolution → Bool) → Counts (FnReturnsAt g.F.Fn l.counts) l.r test → fold (turn test (λ y rest. sum (counted y.value) rest) l.orders.list.now) l.acc (drop l.i-index l.i-items) ≡ support test l.orders.list.now;
       ordered : l.acc.least ≤ l.acc.greatest;
       small : l.acc.greatest ≤ l.i-index;
     }
