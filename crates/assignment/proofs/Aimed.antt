@@ -1,76 +1,78 @@
--- Walking the orders aimed at a region, from the last to the first, comes to what walking all orders does. Assumes nothing.
-use Rattle.std.proofs.Common.{◌≡◌, ℕ, zero, suc, ◌+◌, ◌-◌, ◌<◌, ◌≤◌, Bool, true, false, cond, List, ◌∷◌, length, get_or, drop, sym, refl, ap, ◌∙◌, add-one, arith}
-use Rattle.std.proofs.lemmas.List.{drop_all}
+-- Going over the orders aimed at a region, from the last to the first, comes to what going over all orders does. Assumes nothing.
+use Rattle.std.proofs.Common.{◌≡◌, ℕ, suc, ◌+◌, ◌<◌, Bool, true, false, cond, List, [], ◌∷◌, ◌++◌, length, get_or, sym, refl, ap, ◌∙◌, ⊎_elim, append-nil, ◌≤◌, arith}
+use Rattle.std.specs.List.{fold, All}
+use Rattle.std.proofs.lemmas.Bool.{false≢true, cases_lt}
+use Rattle.std.proofs.lemmas.List.{get_or_append_left, get_or_default, get_or_push, length_push}
+use Rattle.std.proofs.lemmas.List.Sums.{fold-append}
 use Rattle.values.specs.Fold.{gather}
 use Rattle.assignment.specs.declared.resolution.Resolution.{Resolution}
 use Rattle.assignment.specs.Assignment.{nobody}
 use Rattle.board.specs.Order.{goes_to}
-use Rattle.assignment.specs.Places.{aimed_at, last_aimed}
-use Rattle.assignment.proofs.Steps.{resolution_more}
+use Rattle.assignment.specs.Places.{aimed_at, aimed_from, places_aimed}
 
--- the cursor of such a walk: where it stands among the first k
-pub record Cursor (r c : ℕ) (xs : List Resolution) : Type 0 where
-  pub k : ℕ
-  pub within : k ≤ length xs
-  pub is : c ≡ last_aimed r k xs
-
-pub last_low : (r k : ℕ) (xs : List Resolution) → last_aimed r k xs ≤ k
-unfolding last_aimed
-last_low r zero xs = omega arith
-last_low r (suc k) xs = let h = last_low r k xs in elim (aimed_at r (get_or xs k nobody)) as (λ t. cond t (suc k) (last_aimed r k xs) ≤ suc k) [ true ↦ omega arith | false ↦ omega arith ]
-
-pub last_aimed_lem : (r k j : ℕ) (xs : List Resolution) → suc j ≡ last_aimed r k xs → aimed_at r (get_or xs j nobody) ≡ true
-unfolding last_aimed
-last_aimed_lem r zero j xs e = absurd (omega arith)
-last_aimed_lem r (suc k) j xs e = go (last_aimed_lem r k j xs) (aimed_at r (get_or xs k nobody)) refl e
-  where
-    go : (suc j ≡ last_aimed r k xs → aimed_at r (get_or xs j nobody) ≡ true) → (t : Bool) → aimed_at r (get_or xs k nobody) ≡ t → suc j ≡ cond t (suc k) (last_aimed r k xs) → aimed_at r (get_or xs j nobody) ≡ true
-    go below true h f = let same : j ≡ k = omega arith in rw same h
-    go below false h f = below f
+-- one turn: what the order in place i adds
+abbrev pub turn : {B : Type 0} → (Resolution → Bool) → (Resolution → B → B) → List Resolution → B → ℕ → B
+turn test step xs b i = cond (test (get_or xs i nobody)) (step (get_or xs i nobody) b) b
 
 module _ {B : Type 0} (test : Resolution → Bool) (step : Resolution → B → B) (start : B) (r : ℕ) (only : (x : Resolution) → test x ≡ true → aimed_at r x ≡ true) where
-  -- what is not aimed at r adds nothing
-  pub skip : (k : ℕ) (xs : List Resolution) → k ≤ length xs → gather test step start (drop (last_aimed r k xs) xs) ≡ gather test step start (drop k xs)
-  unfolding last_aimed gather
-  skip zero xs h = refl
-  skip (suc k) xs h = go (skip k xs (omega arith)) (aimed_at r (get_or xs k nobody)) refl
+  last_turn : (x : Resolution) (xs : List Resolution) (i : ℕ) (b : B) → x ≡ get_or xs i nobody → (t : Bool) → aimed_at r x ≡ t → fold (turn test step xs) b (cond t (i ∷ []) []) ≡ cond (test x) (step x b) b
+  last_turn x xs i b e true a = ap (λ y. cond (test y) (step y b) b) (sym e)
+  last_turn x xs i b e false a = go (test x) refl
     where
-      rest : List Resolution
-      rest = drop (k + 1) xs
+      go : (t : Bool) → test x ≡ t → b ≡ cond t (step x b) b
+      go true h = absurd (false≢true (sym a ∙ only x h))
+      go false h = refl
 
-      closed : aimed_at r (get_or xs k nobody) ≡ false → (t : Bool) → test (get_or xs k nobody) ≡ t → cond t (step (get_or xs k nobody) (gather test step start rest)) (gather test step start rest) ≡ gather test step start rest
-      closed h true e = absurd (let z : ◌≡◌ {A = Bool} true false = sym (only (get_or xs k nobody) e) ∙ h in let n : ◌≡◌ {A = ℕ} 0 1 = cc in omega arith)
-      closed h false e = refl
+  walked : (xs ys : List Resolution) (i : ℕ) → ((k : ℕ) → get_or ys k nobody ≡ get_or xs (i + k) nobody) → fold (turn test step xs) start (aimed_from i r ys) ≡ gather test step start ys
+  unfolding aimed_from gather
+  walked xs [] i e = refl
+  walked xs (x ∷ ys) i e =
+      fold-append (turn test step xs) start (aimed_from (i + 1) r ys) (cond (aimed_at r x) (i ∷ []) []) ∙
+      ap (λ b. fold (turn test step xs) b (cond (aimed_at r x) (i ∷ []) [])) (walked xs ys (i + 1) (λ k. let f : i + suc k ≡ i + 1 + k = omega arith in e (suc k) ∙ ap (λ n. get_or xs n nobody) f)) ∙
+      last_turn x xs i (gather test step start ys) (let f : i + 0 ≡ i = omega arith in e 0 ∙ ap (λ n. get_or xs n nobody) f) (aimed_at r x) refl
 
-      go : gather test step start (drop (last_aimed r k xs) xs) ≡ gather test step start (drop k xs) → (t : Bool) → aimed_at r (get_or xs k nobody) ≡ t → gather test step start (drop (cond t (suc k) (last_aimed r k xs)) xs) ≡ gather test step start (drop (suc k) xs)
-      go below true e = refl
-      go below false e =
-          below ∙ ap (gather test step start) (resolution_more xs k (omega arith)) ∙ closed e (test (get_or xs k nobody)) refl ∙ ap (λ n. gather test step start (drop n xs)) (add-one k)
+  -- only what is aimed at r passes the test, so that nothing else is needed
+  pub fold_aimed : (xs : List Resolution) → fold (turn test step xs) start (places_aimed r xs) ≡ gather test step start xs
+  fold_aimed xs = walked xs xs 0 (λ k. let e : k ≡ 0 + k = omega arith in ap (λ n. get_or xs n nobody) e)
 
-  -- the walk begins with nothing
-  pub walk_start : (c : ℕ) (xs : List Resolution) → c ≡ last_aimed r (length xs) xs → start ≡ gather test step start (drop c xs)
-  unfolding gather
-  walk_start c xs e = sym (ap (λ n. gather test step start (drop n xs)) e ∙ skip (length xs) xs (omega arith) ∙ ap (gather test step start) (drop_all (length xs) xs (omega arith)))
+-- each of the places lies in the list
+within_from : (i r k : ℕ) (xs : List Resolution) → k < length (aimed_from i r xs) → get_or (aimed_from i r xs) k 0 < i + length xs
+unfolding aimed_from
+within_from i r k [] h = absurd (omega arith)
+within_from i r k (x ∷ xs) h = go (within_from (i + 1) r k xs) (aimed_at r x) h
+  where
+    rest : List ℕ
+    rest = aimed_from (i + 1) r xs
 
-  -- from the order in place i to the one before it
-  pub walk_next : (c i : ℕ) (xs : List Resolution) (v : B) → i < length xs → c ≡ last_aimed r i xs → v ≡ gather test step start (get_or xs i nobody ∷ drop (i + 1) xs) → v ≡ gather test step start (drop c xs)
-  walk_next c i xs v h e here = here ∙ ap (gather test step start) (sym (resolution_more xs i h)) ∙ sym (skip i xs (omega arith)) ∙ sym (ap (λ n. gather test step start (drop n xs)) e)
+    last : (t : Bool) → length rest ≤ k → k < length (rest ++ cond t (i ∷ []) []) → get_or (rest ++ cond t (i ∷ []) []) k 0 < i + suc (length xs)
+    last true l h =
+        let n = length_push rest i in
+        let same : length rest ≡ k = omega arith in
+        let e = get_or_push rest i 0 k same in
+        omega arith
+    last false l h = let n : length (rest ++ []) ≡ length rest = ap length (append-nil rest) in absurd (omega arith)
 
-pub cursor_low : {r c : ℕ} {xs : List Resolution} → Cursor r c xs → c ≤ length xs
-cursor_low {r} {c} {xs} u = let h = last_low r u.k xs in let e = u.is in let w = u.within in omega arith
+    go : (k < length rest → get_or rest k 0 < i + 1 + length xs) → (t : Bool) → k < length (rest ++ cond t (i ∷ []) []) → get_or (rest ++ cond t (i ∷ []) []) k 0 < i + suc (length xs)
+    go below t h = ⊎_elim (λ l. let e = get_or_append_left rest (cond t (i ∷ []) []) 0 k l in let b = below l in omega arith) (λ l. last t l h) (cases_lt k (length rest))
 
-pub cursor_aimed : {r c : ℕ} {xs : List Resolution} → Cursor r c xs → 0 < c → aimed_at r (get_or xs (c - 1) nobody) ≡ true
-cursor_aimed {r} {c} {xs} u h = let e : suc (c - 1) ≡ c = omega arith in last_aimed_lem r u.k (c - 1) xs (e ∙ u.is)
+pub aimed_within : (r : ℕ) (xs : List Resolution) → All (λ i. i < length xs) (places_aimed r xs)
+aimed_within r xs k d h = let e = get_or_default (places_aimed r xs) k d 0 h in let l = within_from 0 r k xs h in omega arith
 
-pub cursor_start : (r c : ℕ) (xs : List Resolution) → c ≡ last_aimed r (length xs) xs → Cursor r c xs
-cursor_start r c xs e = record { k = length xs; within = omega arith; is = e }
+few_from : (i r : ℕ) (xs : List Resolution) → length (aimed_from i r xs) ≤ length xs
+unfolding aimed_from
+few_from i r [] = omega arith
+few_from i r (x ∷ xs) = go (few_from (i + 1) r xs) (aimed_at r x)
+  where
+    rest : List ℕ
+    rest = aimed_from (i + 1) r xs
 
-pub cursor_next : (r c i : ℕ) (xs : List Resolution) → i < length xs → c ≡ last_aimed r i xs → Cursor r c xs
-cursor_next r c i xs h e = record { k = i; within = omega arith; is = e }
+    go : length rest ≤ length xs → (t : Bool) → length (rest ++ cond t (i ∷ []) []) ≤ suc (length xs)
+    go below true = let n = length_push rest i in omega arith
+    go below false = let n : length (rest ++ []) ≡ length rest = ap length (append-nil rest) in omega arith
 
--- the walk falls
-pub cursor_falls : (r c i : ℕ) (xs : List Resolution) → c ≡ last_aimed r i xs → c ≤ i
-cursor_falls r c i xs e = let h = last_low r i xs in omega arith
+-- no more places than orders
+pub aimed_few : (r : ℕ) (xs : List Resolution) → length (places_aimed r xs) ≤ length xs
+aimed_few r xs = few_from 0 r xs
 
 -- only a move into r goes to r
 pub goes_aimed : (r : ℕ) (x : Resolution) → goes_to r x.order ≡ true → aimed_at r x ≡ true

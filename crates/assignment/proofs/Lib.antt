@@ -2,3 +2,4 @@ pub mod Steps
 pub mod Aimed
 pub mod Tabled
 pub mod Kept
+pub mod Numbered

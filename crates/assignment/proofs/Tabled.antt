@@ -1,129 +1,108 @@
 -- The tables of a lookup: how they are filled, and what they say. Assumes nothing.
-use Rattle.std.proofs.Common.{◌≡◌, ℕ, suc, ◌+◌, ◌<◌, Bool, true, false, cond, eqb, ltb, List, [], ◌∷◌, length, get_or, drop, set, replicate, Some, None, Option, sym, refl, ap, ◌∙◌, ⊎_elim, add-one, arith}
-use Rattle.std.proofs.lemmas.List.{drop_all, get_or-set_same, get_or-set_other, get_or-replicate}
-use Rattle.std.proofs.lemmas.Bool.{cases_Bool, cases_lt, eqb-true, eqb-false, lt-ltb, and_parts, false≢true}
+use Rattle.std.proofs.Common.{◌≡◌, ℕ, suc, ◌+◌, ◌-◌, ◌<◌, Bool, true, false, cond, eqb, List, [], ◌∷◌, ◌++◌, length, get_or, drop, set, replicate, vec_items, Some, None, Option, sym, refl, ap, ◌∙◌, subst, append-nil, arith}
+use Rattle.std.proofs.lemmas.List.{drop_all, get_or_default, get_or-set_same, get_or-set_other, get_or-replicate}
+use Rattle.std.proofs.lemmas.Bool.{eqb-true, eqb-false}
+use Rattle.std.specs.Option.{option_map}
 use Rattle.values.specs.Fold.{gather}
 use Rattle.assignment.specs.declared.resolution.Resolution.{Resolution}
 use Rattle.assignment.specs.Assignment.{nobody, who}
-use Rattle.assignment.specs.Places.{first_place, spots, acts, aimed_at, last_aimed, Placed, Chained, Inside}
+use Rattle.assignment.specs.Places.{place_from, acts, aimed_from, places_aimed, Placed, Aimed, Inside}
 use Rattle.board.specs.Order.{aim}
-use Rattle.assignment.proofs.Steps.{resolution_more}
+use Rattle.assignment.specs.declared.lookup.Lookup.{Lookup}
+use Rattle.assignment.specs.Lookup.{Indexed}
+use Rattle.assignment.proofs.Numbered.{NumberedTurn}
 
--- who stands in a place of the list
-abbrev pub who_at : ℕ → List Resolution → Option Resolution
-who_at i xs = cond (ltb i (length xs)) (Some (get_or xs i nobody)) None
-
-ltb_suc : (a b : ℕ) → ltb (suc a) (suc b) ≡ ltb a b
-ltb_suc a b = grind arith
-
-who_first : (r : ℕ) (xs : List Resolution) → who_at (first_place r (spots xs)) xs ≡ who r xs
-unfolding gather first_place
-who_first r [] = refl
-who_first r (x ∷ xs) = go (eqb r x.unit.region) (who_first r xs)
+-- who stands in the place that the table gives
+at_place : (xs ys : List Resolution) (i r : ℕ) → ((k : ℕ) → get_or ys k nobody ≡ get_or xs (i + k) nobody) → option_map (λ k. get_or xs k nobody) (place_from i r ys) ≡ who r ys
+unfolding gather
+at_place xs [] i r e = refl
+at_place xs (x ∷ ys) i r e = go (at_place xs ys (i + 1) r (λ k. let f : i + suc k ≡ i + 1 + k = omega arith in e (suc k) ∙ ap (λ n. get_or xs n nobody) f)) (eqb r x.unit.region)
   where
-    go : (b : Bool) → who_at (first_place r (spots xs)) xs ≡ who r xs → who_at (cond b 0 (suc (first_place r (spots xs)))) (x ∷ xs) ≡ cond b (Some x) (who r xs)
-    go true e = rw (lt-ltb 0 (suc (length xs)) (omega arith)) refl
-    go false e = rw (ltb_suc (first_place r (spots xs)) (length xs)) e
+    go : option_map (λ k. get_or xs k nobody) (place_from (i + 1) r ys) ≡ who r ys → (b : Bool) → option_map (λ k. get_or xs k nobody) (cond b (Some i) (place_from (i + 1) r ys)) ≡ cond b (Some x) (who r ys)
+    go below true = let f : i + 0 ≡ i = omega arith in ap Some (sym (e 0 ∙ ap (λ n. get_or xs n nobody) f))
+    go below false = below
 
-pub placed_at : (at : List ℕ) (xs : List Resolution) (r : ℕ) → Placed at xs → r < 256 → who_at (get_or at r 0) xs ≡ who r xs
+placed_at : (table : List (Option ℕ)) (xs : List Resolution) (r : ℕ) → Placed table xs → r < 256 → option_map (λ k. get_or xs k nobody) (get_or table r None) ≡ who r xs
 unfolding Placed
-placed_at at xs r h l = ap (λ i. who_at i xs) (h r l) ∙ who_first r xs
+placed_at table xs r h l = ap (option_map (λ k. get_or xs k nobody)) (h r l) ∙ at_place xs xs 0 r (λ k. let e : k ≡ 0 + k = omega arith in ap (λ n. get_or xs n nobody) e)
+
+place_low : (i r k : ℕ) (xs : List Resolution) → place_from i r xs ≡ Some k → k < i + length xs
+place_low i r k [] e = grind arith
+place_low i r k (x ∷ xs) e = go (place_low (i + 1) r k xs) (eqb r x.unit.region) e
+  where
+    go : (place_from (i + 1) r xs ≡ Some k → k < i + 1 + length xs) → (b : Bool) → cond b (Some i) (place_from (i + 1) r xs) ≡ Some k → k < i + suc (length xs)
+    go below true e = grind arith
+    go below false e = let l = below e in omega arith
+
+placed_within : (table : List (Option ℕ)) (xs : List Resolution) (r k : ℕ) → Placed table xs → r < 256 → get_or table r None ≡ Some k → k < length xs
+unfolding Placed
+placed_within table xs r k h l e = let low = place_low 0 r k xs (sym (h r l) ∙ e) in omega arith
+
+-- what a read of the table of places says
+module _ (l : Lookup) (xs : List Resolution) (h : Indexed l xs) (r : ℕ) (small : r < 256) (o : Option ℕ) (read : o ≡ get_or (vec_items l.place) r o) where
+  entry : o ≡ get_or (vec_items l.place) r None
+  entry = read ∙ get_or_default (vec_items l.place) r o None (omega (arith, l.place.ok.0, l.places))
+
+  pub who_read : option_map (λ k. get_or xs k nobody) o ≡ who r xs
+  who_read = ap (option_map (λ k. get_or xs k nobody)) entry ∙ placed_at (vec_items l.place) xs r h.placed small
+
+  pub within_read : (k : ℕ) → o ≡ Some k → k < length xs
+  within_read k e = placed_within (vec_items l.place) xs r k h.placed small (sym entry ∙ e)
+
+pub aimed_table : (table : List (List ℕ)) (xs : List Resolution) (r : ℕ) → Aimed table xs → r < 256 → get_or table r [] ≡ places_aimed r xs
+unfolding Aimed
+aimed_table table xs r h l = h r l
 
 pub inside_at : (xs : List Resolution) (i : ℕ) → Inside xs → (get_or xs i nobody).unit.region < 128
 unfolding Inside
 inside_at xs i h = h i
 
--- the table of places, filled from the back
-pub fill_none : (at : List ℕ) (xs : List Resolution) (r : ℕ) → r < 256 → at ≡ replicate 256 (length xs) → get_or at r 0 ≡ length xs + first_place r (spots (drop (length xs) xs))
-unfolding first_place
-fill_none at xs r l e =
-    let d = ap (λ ys. first_place r (spots ys)) (drop_all (length xs) xs (omega arith)) in
-    let g = ap (λ ys. get_or ys r 0) e ∙ get_or-replicate 256 r (length xs) 0 l in
-    omega arith
+-- the tables of what stands in the list from place i on
+pub record Filled (i : ℕ) (place : List (Option ℕ)) (aimed : List (List ℕ)) (rest : List Resolution) : Type 0 where
+  pub places : (r : ℕ) → r < 256 → get_or place r None ≡ place_from i r rest
+  pub aims : (r : ℕ) → r < 256 → get_or aimed r [] ≡ aimed_from i r rest
 
-pub fill_more : (at : List ℕ) (xs : List Resolution) (i r : ℕ) → i < length xs → (get_or xs i nobody).unit.region < length at → get_or at r 0 ≡ i + 1 + first_place r (spots (drop (i + 1) xs)) →
-    get_or (set at (get_or xs i nobody).unit.region i) r 0 ≡ i + first_place r (spots (drop i xs))
-unfolding first_place
-fill_more at xs i r l h e = ⊎_elim same other (cases_Bool (eqb r (get_or xs i nobody).unit.region))
-  where
-    q : ℕ
-    q = (get_or xs i nobody).unit.region
+pub filled_none : (place : List (Option ℕ)) (aimed : List (List ℕ)) (xs : List Resolution) → place ≡ replicate 256 None → aimed ≡ replicate 256 [] → Filled (length xs - 0) place aimed (drop (length xs - 0) xs)
+unfolding aimed_from
+filled_none place aimed xs p a =
+    subst (λ ys. Filled (length xs - 0) place aimed ys) (sym (drop_all (length xs - 0) xs (omega arith)))
+    (record { places = λ r l. ap (λ t. get_or t r None) p ∙ get_or-replicate 256 r None None l; aims = λ r l. ap (λ t. get_or t r []) a ∙ get_or-replicate 256 r [] [] l })
 
-    open_up : first_place r (spots (drop i xs)) ≡ cond (eqb r q) 0 (suc (first_place r (spots (drop (i + 1) xs))))
-    open_up = ap (λ ys. first_place r (spots ys)) (resolution_more xs i l)
+-- one turn of filling them from the last order to the first
+module _ (place : List (Option ℕ)) (aimed : List (List ℕ)) (all : List Resolution) (n m i : ℕ) (x : Resolution) (turn : NumberedTurn all n i x) (more : m ≡ n + 1) (small : x.unit.region < 256) (wide : length place ≡ 256) (before : Filled (length all - n) place aimed (drop (length all - n) all)) where
+  abbrev rest : List Resolution
+  rest = drop (length all - n) all
 
-    same : eqb r q ≡ true → get_or (set at q i) r 0 ≡ i + first_place r (spots (drop i xs))
-    same t =
-        let a : get_or (set at q i) r 0 ≡ i = ap (λ n. get_or (set at q i) n 0) (eqb-true r q t) ∙ get_or-set_same at q i 0 h in
-        let b : first_place r (spots (drop i xs)) ≡ 0 = open_up ∙ ap (λ t. cond {A = ℕ} t 0 (suc (first_place r (spots (drop (i + 1) xs))))) t in
-        omega arith
+  f : Filled (i + 1) place aimed rest
+  f = let e : length all - n ≡ i + 1 = omega (arith, turn.left, turn.place) in subst (λ k. Filled k place aimed rest) e before
 
-    other : eqb r q ≡ false → get_or (set at q i) r 0 ≡ i + first_place r (spots (drop i xs))
-    other t =
-        let a : get_or (set at q i) r 0 ≡ get_or at r 0 = get_or-set_other at q r i 0 (eqb-false r q t) in
-        let b : first_place r (spots (drop i xs)) ≡ suc (first_place r (spots (drop (i + 1) xs))) = open_up ∙ ap (λ t. cond {A = ℕ} t 0 (suc (first_place r (spots (drop (i + 1) xs))))) t in
-        omega arith
+  onward : (place : List (Option ℕ)) (aimed : List (List ℕ)) → Filled i place aimed (x ∷ rest) → Filled (length all - m) place aimed (drop (length all - m) all)
+  onward place aimed h =
+      let e : i ≡ length all - m = omega (arith, turn.place, more) in
+      subst (λ k. Filled k place aimed (drop k all)) e (subst (Filled i place aimed) (sym turn.rest) h)
 
-pub fill_all : (at : List ℕ) (xs : List Resolution) (i : ℕ) → i ≡ 0 → ((r : ℕ) → r < 256 → get_or at r 0 ≡ i + first_place r (spots (drop i xs))) → Placed at xs
-unfolding Placed
-fill_all at xs i z h = λ r l. let a = h r l in let b = ap (λ n. first_place r (spots (drop n xs))) z in omega arith
+  placed_more : (r : ℕ) → r < 256 → get_or (set place x.unit.region (Some i)) r None ≡ place_from i r (x ∷ rest)
+  placed_more r l = go (eqb r x.unit.region) refl
+    where
+      go : (t : Bool) → eqb r x.unit.region ≡ t → get_or (set place x.unit.region (Some i)) r None ≡ cond t (Some i) (place_from (i + 1) r rest)
+      go true e = ap (λ n. get_or (set place x.unit.region (Some i)) n None) (eqb-true r x.unit.region e) ∙ get_or-set_same place x.unit.region (Some i) None (omega arith)
+      go false e = get_or-set_other place x.unit.region r (Some i) None (eqb-false r x.unit.region e) ∙ f.places r l
 
--- the chains of the first i orders
-pub record Chaining (i : ℕ) (last before : List ℕ) (xs : List Resolution) : Type 0 where
-  pub heads : (r : ℕ) → r < 256 → get_or last r 0 ≡ last_aimed r i xs
-  pub links : (k : ℕ) → k < i → acts (get_or xs k nobody).order ≡ true → get_or before k 0 ≡ last_aimed (aim (get_or xs k nobody).order) k xs
+  pub filled_pass : acts x.order ≡ false → Filled (length all - m) (set place x.unit.region (Some i)) aimed (drop (length all - m) all)
+  unfolding aimed_from
+  filled_pass a = onward _ aimed (record { places = placed_more; aims = λ r l. f.aims r l ∙ sym (rw a (append-nil (aimed_from (i + 1) r rest))) })
 
-pub chain_none : (last before : List ℕ) (xs : List Resolution) → last ≡ replicate 256 0 → Chaining 0 last before xs
-unfolding last_aimed
-chain_none last before xs e = record { heads = λ r l. ap (λ ys. get_or ys r 0) e ∙ get_or-replicate 256 r 0 0 l; links = λ k l a. absurd (omega arith) }
+  pub filled_more : acts x.order ≡ true → length aimed ≡ 256 → aim x.order < 256 → Filled (length all - m) (set place x.unit.region (Some i)) (set aimed (aim x.order) (get_or aimed (aim x.order) [] ++ i ∷ [])) (drop (length all - m) all)
+  unfolding aimed_from
+  filled_more a long near = onward _ new (record { places = placed_more; aims = λ r l. go r l (eqb r (aim x.order)) refl })
+    where
+      new : List (List ℕ)
+      new = set aimed (aim x.order) (get_or aimed (aim x.order) [] ++ i ∷ [])
 
--- one more link
-link_more : (i v : ℕ) (before : List ℕ) (xs : List Resolution) → i < length before → v ≡ last_aimed (aim (get_or xs i nobody).order) i xs →
-    ((k : ℕ) → k < i → acts (get_or xs k nobody).order ≡ true → get_or before k 0 ≡ last_aimed (aim (get_or xs k nobody).order) k xs) →
-    (k : ℕ) → k < i + 1 → acts (get_or xs k nobody).order ≡ true → get_or (set before i v) k 0 ≡ last_aimed (aim (get_or xs k nobody).order) k xs
-link_more i v before xs room here below k l a =
-    ⊎_elim (λ h. get_or-set_other before i k v 0 (λ e. omega arith) ∙ below k h a) (λ h. at-end (omega arith)) (cases_lt k i)
-  where
-    at-end : k ≡ i → get_or (set before i v) k 0 ≡ last_aimed (aim (get_or xs k nobody).order) k xs
-    at-end e = ap (λ n. get_or (set before i v) n 0) e ∙ get_or-set_same before i v 0 room ∙ here ∙ ap (λ n. last_aimed (aim (get_or xs n nobody).order) n xs) (sym e)
+      go : (r : ℕ) → r < 256 → (t : Bool) → eqb r (aim x.order) ≡ t → get_or new r [] ≡ aimed_from i r (x ∷ rest)
+      go r l true e = rw (a, e) (ap (λ n. get_or new n []) (eqb-true r (aim x.order) e) ∙ get_or-set_same aimed (aim x.order) _ [] (omega arith) ∙ ap (λ n. get_or aimed n [] ++ i ∷ []) (sym (eqb-true r (aim x.order) e)) ∙ ap (λ ys. ys ++ i ∷ []) (f.aims r l))
+      go r l false e = rw (a, e) (get_or-set_other aimed (aim x.order) r _ [] (eqb-false r (aim x.order) e) ∙ f.aims r l ∙ sym (append-nil (aimed_from (i + 1) r rest)))
 
-pub chain_more : (i : ℕ) (last before : List ℕ) (xs : List Resolution) → i < length before → length last ≡ 256 → aim (get_or xs i nobody).order < 256 → acts (get_or xs i nobody).order ≡ true → Chaining i last before xs →
-    Chaining (i + 1) (set last (aim (get_or xs i nobody).order) (i + 1)) (set before i (get_or last (aim (get_or xs i nobody).order) 0)) xs
-unfolding last_aimed
-chain_more i last before xs room wide small a ch = record { heads = heads; links = link_more i (get_or last q 0) before xs room (ch.heads q small) ch.links }
-  where
-    q : ℕ
-    q = aim (get_or xs i nobody).order
-
-    heads : (r : ℕ) → r < 256 → get_or (set last q (i + 1)) r 0 ≡ last_aimed r (i + 1) xs
-    heads r l = go (eqb r q) refl ∙ sym (ap (λ n. last_aimed r n xs) (add-one i))
-      where
-        go : (t : Bool) → eqb r q ≡ t → get_or (set last q (i + 1)) r 0 ≡ last_aimed r (suc i) xs
-        go true e = rw (a, e) (ap (λ n. get_or (set last q (i + 1)) n 0) (eqb-true r q e) ∙ get_or-set_same last q (i + 1) 0 (omega arith) ∙ add-one i)
-        go false e = rw (a, e) (get_or-set_other last q r (i + 1) 0 (eqb-false r q e) ∙ ch.heads r l)
-
-pub chain_pass : (i : ℕ) (last before : List ℕ) (xs : List Resolution) → acts (get_or xs i nobody).order ≡ false → Chaining i last before xs → Chaining (i + 1) last before xs
-unfolding last_aimed
-chain_pass i last before xs a ch =
-    record {
-      heads = λ r l. ch.heads r l ∙ sym (ap (λ n. last_aimed r n xs) (add-one i) ∙ rw a refl);
-      links = λ k l h. ⊎_elim (λ below. ch.links k below h) (λ end. clash k (omega arith) h) (cases_lt k i);
-    }
-  where
-    clash : (k : ℕ) → k ≡ i → acts (get_or xs k nobody).order ≡ true → get_or before k 0 ≡ last_aimed (aim (get_or xs k nobody).order) k xs
-    clash k e h = absurd (false≢true (sym a ∙ ap (λ n. acts (get_or xs n nobody).order) (sym e) ∙ h))
-
-pub chain-all : (i : ℕ) (last before : List ℕ) (xs : List Resolution) → i ≡ length xs → Chaining i last before xs → Chained last before xs
-unfolding Chained
-chain-all i last before xs e ch =
-    (λ r l. ch.heads r l ∙ ap (λ n. last_aimed r n xs) e, λ k l a. ch.links k (omega arith) a)
-
-pub chained_last : (last before : List ℕ) (xs : List Resolution) (r : ℕ) → Chained last before xs → r < 256 → get_or last r 0 ≡ last_aimed r (length xs) xs
-unfolding Chained
-chained_last last before xs r h l = h.0 r l
-
-pub chained_before : (last before : List ℕ) (xs : List Resolution) (r k : ℕ) → Chained last before xs → k < length xs → aimed_at r (get_or xs k nobody) ≡ true → get_or before k 0 ≡ last_aimed r k xs
-unfolding Chained
-chained_before last before xs r k h l a =
-    let both = and_parts (acts (get_or xs k nobody).order) (eqb r (aim (get_or xs k nobody).order)) a in
-    h.1 k l both.0 ∙ ap (λ n. last_aimed n k xs) (sym (eqb-true r (aim (get_or xs k nobody).order) both.1))
+pub filled_all : (place : List (Option ℕ)) (aimed : List (List ℕ)) (xs : List Resolution) (n : ℕ) → n ≡ length xs → Filled (length xs - n) place aimed (drop (length xs - n) xs) → Placed place xs × Aimed aimed xs
+unfolding Placed Aimed
+filled_all place aimed xs n e f = let z : length xs - n ≡ 0 = omega arith in let g = subst (λ k. Filled k place aimed (drop k xs)) z f in (g.places, g.aims)

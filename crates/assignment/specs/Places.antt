@@ -1,17 +1,16 @@
--- Where in the list a unit stands, and which order was the last to be aimed at a region. Assumes nothing.
-use Rattle.std.specs.Prelude.{◌≡◌, ℕ, zero, suc, ◌<◌, Bool, true, cond, ◌&&◌, ◌||◌, List, [], ◌∷◌, map, length, get_or, ◌==◌, slice_index, slice_index_or}
+-- Where in the list a unit stands, and which orders are aimed at a region. Assumes nothing.
+use Rattle.std.specs.Prelude.{◌≡◌, ℕ, ◌+◌, ◌<◌, Bool, cond, ◌&&◌, ◌||◌, List, [], ◌∷◌, ◌++◌, get_or, None, Option, ◌==◌}
+use Rattle.std.specs.List.{position_from}
+use Rattle.std.specs.Coded.{Π_prop, →_prop, Coded-set, coded_list, coded_ℕ}
+use Rattle.std.proofs.Props.{props}
 use Rattle.board.specs.declared.order.Order.{Order}
 use Rattle.board.specs.Order.{is_move, is_support, aim}
 use Rattle.assignment.specs.declared.resolution.Resolution.{Resolution}
 use Rattle.assignment.specs.Assignment.{nobody}
 
--- the first place of r in a list of regions, or the list's length
-unfoldable pub first_place : ℕ → List ℕ → ℕ
-first_place r [] = 0
-first_place r (q ∷ qs) = cond (r == q) 0 (suc (first_place r qs))
-
-abbrev pub spots : List Resolution → List ℕ
-spots xs = map (λ x. x.unit.region) xs
+-- where the first unit in r stands, if the list's head stands in place i
+abbrev pub place_from : ℕ → ℕ → List Resolution → Option ℕ
+place_from i r xs = position_from (λ x. r == x.unit.region) i xs
 
 -- only moves and supports are decided
 abbrev pub acts : Order → Bool
@@ -21,20 +20,30 @@ acts o = is_move o || is_support o
 abbrev pub aimed_at : ℕ → Resolution → Bool
 aimed_at r x = acts x.order && r == aim x.order
 
--- one more than the last place below k of an order aimed at r, or 0
-unfoldable pub last_aimed : ℕ → ℕ → List Resolution → ℕ
-last_aimed r zero xs = 0
-last_aimed r (suc k) xs = cond (aimed_at r (slice_index_or xs k nobody)) (suc k) (last_aimed r k xs)
+-- the places of the orders aimed at r, the last first, if the list's head stands in place i
+unfoldable pub aimed_from : ℕ → ℕ → List Resolution → List ℕ
+aimed_from i r [] = []
+aimed_from i r (x ∷ xs) = aimed_from (i + 1) r xs ++ cond (aimed_at r x) (i ∷ []) []
+
+abbrev pub places_aimed : ℕ → List Resolution → List ℕ
+places_aimed r xs = aimed_from 0 r xs
 
 -- for each region the place of its unit
-unfoldable pub Placed : List ℕ → List Resolution → Type 0
-Placed at xs = (r : ℕ) → r < 256 → slice_index at r ≡ first_place r (spots xs)
+unfoldable pub Placed : List (Option ℕ) → List Resolution → Type 0
+Placed table xs = (r : ℕ) → r < 256 → get_or table r None ≡ place_from 0 r xs
 
--- for each region the last order aimed at it, and for each such order the one before it
-unfoldable pub Chained : List ℕ → List ℕ → List Resolution → Type 0
-Chained last before xs =
-    ((r : ℕ) → r < 256 → slice_index last r ≡ last_aimed r (length xs) xs) ×
-    ((k : ℕ) → k < length xs → acts (get_or xs k nobody).order ≡ true → slice_index before k ≡ last_aimed (aim (get_or xs k nobody).order) k xs)
+-- for each region the places of the orders aimed at it
+unfoldable pub Aimed : List (List ℕ) → List Resolution → Type 0
+Aimed table xs = (r : ℕ) → r < 256 → get_or table r [] ≡ places_aimed r xs
+
+-- each of them in one way at most
+pub Placed-prop : (table : List (Option ℕ)) (xs : List Resolution) → IsProp (Placed table xs)
+unfolding Placed
+Placed-prop table xs = Π_prop (λ r. →_prop (Prim.hlevel props))
+
+pub Aimed-prop : (table : List (List ℕ)) (xs : List Resolution) → IsProp (Aimed table xs)
+unfolding Aimed
+Aimed-prop table xs = Π_prop (λ r. →_prop (Coded-set (coded_list coded_ℕ) _ _))
 
 -- every unit in a region below 128
 unfoldable pub Inside : List Resolution → Type 0

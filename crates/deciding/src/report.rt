@@ -48,9 +48,5 @@ pub fn reports(
     requires indexed { Indexed lookup.now outcome.now }
     ensures { IfOk result (λ v. v.items ≡ map (report_one outcome.now) settled.now) }
 {
-    let mut told = Vec::with_capacity(heap, settled.len())?;
-    for x in settled {
-        told.push_reserved(report_one(lookup, outcome, *x));
-    }
-    Ok(told)
+    settled.iter().map(|x| report_one(lookup, outcome, *x)).collect(heap)
 }

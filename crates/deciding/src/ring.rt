@@ -3,6 +3,7 @@ ghost use Rattle.std.specs.Prelude.{◌≡◌, ◌≤◌, length, vec_len, vec_c
 ghost use Rattle.deciding.specs.Outcome.{in_ring, close_one, close};
 
 use assignment::Resolution;
+use paths::refill;
 use values::Tri;
 
 // Whether a unit, as it was settled, goes round in a ring.
@@ -16,12 +17,7 @@ pub fn close_one(x: Resolution) -> Resolution
     ensures { result ≡ close_one x }
 {
     let value = if in_ring(x) { Tri::Yes } else { x.value };
-    Resolution {
-        unit: x.unit,
-        order: x.order,
-        value,
-        stranded: x.stranded,
-    }
+    Resolution { value, ..x }
 }
 
 pub fn close_into(xs: &[Resolution], out: &mut Vec<Resolution>)
@@ -31,8 +27,5 @@ pub fn close_into(xs: &[Resolution], out: &mut Vec<Resolution>)
     ensures len { vec_len out.new ≡ length xs.now }
     ensures cap { vec_capacity out.new ≡ vec_capacity out.old }
 {
-    out.clear();
-    for x in xs {
-        out.push_reserved(close_one(*x));
-    }
+    refill(out, xs.iter().map(|x| close_one(*x)));
 }

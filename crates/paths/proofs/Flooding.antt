@@ -10,7 +10,6 @@ use Rattle.geography.proofs.Bitwise.{same_test}
 use Rattle.geography.specs.Links.{linked}
 use Rattle.std.proofs.lemmas.Bool.{or_from, or_left, or_right, or_parts, or_cases, eq-eqb, eqb-true}
 use Rattle.paths.specs.Paths.{touches, carrier, reached, flood, chain, surely_stays, may_stay, path}
-use Rattle.paths.specs.Flood.{counts}
 use Rattle.values.specs.declared.tri.Tri.{Tri}
 use Rattle.values.specs.declared.tri.Tri.TheVariants.{No, Open, Yes}
 use Rattle.values.specs.Tri.{is_yes, is_no}
@@ -69,17 +68,51 @@ module _ (m : Board) (p : Resolution → Bool) (f t : ℕ) where
   unfolding flood
   flood_none n k xs rs h = let e : n - k ≡ 0 = omega arith in ap (λ j. flood j m p f t xs rs) e
 
--- which fleets count, by the table of those dislodged
-pub counts_is : (sure : Bool) (x : Resolution) (xs : List Resolution) (d : Tri) (f t : ℕ) → convoys f t x.order ≡ true → d ≡ dislodged x xs → cond sure (is_no d) (not (is_yes d)) ≡ (convoys f t x.order && counts sure xs x)
-counts_is true x xs d f t e w = rw (e, w) refl
-counts_is false x xs d f t e w = rw (e, w) refl
+  -- what one turn over the fleets leaves, from the first on: what was reached before, and what each fleet adds
+  pub grown_start : (rs : List ℕ) (xs : List Resolution) (q : ℕ) → (is_in q rs || is_in q (reached m p f t rs xs)) ≡ is_in q (reached m p f t rs xs)
+  unfolding gather any
+  grown_start rs [] q = twice (is_in q rs)
+    where
+      twice : (a : Bool) → (a || a) ≡ a
+      twice true = refl
+      twice false = refl
+  grown_start rs (x ∷ xs) q = go (carrier m p f t rs x) (grown_start rs xs q)
+    where
+      more : (a i r : Bool) → (i || r) ≡ r → (i || (a || r)) ≡ (a || r)
+      more a i r h = grind arith
+
+      go : (b : Bool) → (is_in q rs || is_in q (reached m p f t rs xs)) ≡ is_in q (reached m p f t rs xs) →
+          (is_in q rs || is_in q (cond b (x.unit.region ∷ reached m p f t rs xs) (reached m p f t rs xs))) ≡ is_in q (cond b (x.unit.region ∷ reached m p f t rs xs) (reached m p f t rs xs))
+      go true h = more (eqb q x.unit.region) (is_in q rs) (is_in q (reached m p f t rs xs)) h
+      go false h = h
+
+  pub grown : (old new : ℕ → Bool) (rs : List ℕ) (x : Resolution) (xs : List Resolution) → ((q : ℕ) → new q ≡ (eqb q x.unit.region || old q)) → carrier m p f t rs x ≡ true →
+      (q : ℕ) → (new q || is_in q (reached m p f t rs xs)) ≡ (old q || is_in q (reached m p f t rs (x ∷ xs)))
+  unfolding gather any
+  grown old new rs x xs more here q = rw here (ap (λ b. b || is_in q (reached m p f t rs xs)) (more q) ∙ turn (eqb q x.unit.region) (old q) (is_in q (reached m p f t rs xs)))
+    where
+      turn : (a b c : Bool) → ((a || b) || c) ≡ (b || (a || c))
+      turn a b c = grind arith
+
+  pub passed : (rs : List ℕ) (x : Resolution) (xs : List Resolution) → carrier m p f t rs x ≡ false → reached m p f t rs xs ≡ reached m p f t rs (x ∷ xs)
+  unfolding gather
+  passed rs x xs here = rw here refl
+
+  pub grown-end : (b : Bool) (rs : List ℕ) (q : ℕ) → (is_in q rs ≡ true → b ≡ true) → (b || is_in q (reached m p f t rs [])) ≡ b
+  unfolding gather
+  grown-end b rs q h = held b (is_in q rs) h
+    where
+      held : (a i : Bool) → (i ≡ true → a ≡ true) → (a || i) ≡ a
+      held a true h = ap (λ b. b || true) (h refl) ∙ sym (h refl)
+      held true false h = refl
+      held false false h = refl
 
 -- a path over water, by the two chains
 pub path_water : (m : Board) (x : Resolution) (xs : List Resolution) (t : ℕ) → t ≡ aim x.order → true ≡ is_convoyed x.order → x.stranded ≡ false → (sure maybe : Bool) →
-    sure ≡ chain m (counts true xs) x.unit.region t xs → maybe ≡ chain m (counts false xs) x.unit.region t xs → cond sure Yes (cond maybe Open No) ≡ path m x xs
+    sure ≡ chain m (surely_stays xs) x.unit.region t xs → maybe ≡ chain m (may_stay xs) x.unit.region t xs → cond sure Yes (cond maybe Open No) ≡ path m x xs
 path_water m x xs t to water free sure maybe p q =
-    let sure-is = p ∙ ap (λ r. chain m (counts true xs) x.unit.region r xs) to in
-    let maybe-is = q ∙ ap (λ r. chain m (counts false xs) x.unit.region r xs) to in
+    let sure-is = p ∙ ap (λ r. chain m (surely_stays xs) x.unit.region r xs) to in
+    let maybe-is = q ∙ ap (λ r. chain m (may_stay xs) x.unit.region r xs) to in
     let held = sym free in
     (λ i. cond (sure-is i) Yes (cond (maybe-is i) Open No)) ∙
     (λ i. cond (not (water i)) Yes (cond (held i) No (cond (chain m (surely_stays xs) x.unit.region (aim x.order) xs) Yes (cond (chain m (may_stay xs) x.unit.region (aim x.order) xs) Open No))))

@@ -1,1 +1,4 @@
 pub mod Flooding
+pub mod Refilled
+pub mod InStep
+pub mod Inside

@@ -1,8 +1,8 @@
--- Which fleets count, for the sure chain and for the possible one. Assumes nothing.
-use Rattle.std.specs.Prelude.{Bool, true, false, List}
+-- Which fleets count, by a test of whether they are dislodged. Assumes nothing.
+use Rattle.std.specs.Prelude.{Bool, List}
+use Rattle.values.specs.declared.tri.Tri.{Tri}
 use Rattle.assignment.specs.declared.resolution.Resolution.{Resolution}
-use Rattle.paths.specs.Paths.{surely_stays, may_stay}
+use Rattle.assignment.specs.Assignment.{dislodged}
 
-abbrev pub counts : Bool → List Resolution → Resolution → Bool
-counts true xs x = surely_stays xs x
-counts false xs x = may_stay xs x
+abbrev pub counts : (Tri → Bool) → List Resolution → Resolution → Bool
+counts stays xs x = stays (dislodged x xs)

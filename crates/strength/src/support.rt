@@ -1,149 +1,47 @@
 // One, and the supports that count: what stands behind a move, or behind whoever stays.
-ghost use Rattle.std.specs.Prelude.{◌≡◌, ℕ, Bool, true, not, ◌&&◌, ◌==◌};
+ghost use Rattle.std.specs.Prelude.{◌≡◌, Bool};
+ghost use Rattle.std.specs.Fn.{FnReturnsAt};
 ghost use Rattle.values.specs.Span.{sum, exactly};
-ghost use Rattle.board.specs.Order.{supports_move, supports_hold};
 ghost use Rattle.assignment.specs.declared.resolution.Resolution.{Resolution as ResolutionOf};
-ghost use Rattle.assignment.specs.Places.{aimed_at};
-ghost use Rattle.assignment.specs.Lookup.{Indexed};
+ghost use Rattle.strength.specs.Counting.{Counts};
 ghost use Rattle.strength.specs.Strength.{support, support_but, full};
-ghost use Rattle.std.proofs.Common.{rules};
 
-use assignment::{Lookup, Resolution};
+use assignment::{Orders, Resolution};
 use values::Span;
 
-// Which supports are sought: all of them are aimed at one region.
-pub trait Sought {
-    ghost test: { Self → ResolutionOf → Bool };
-
-    ghost goal: { Self → ℕ };
-
-    fn target(&self) -> u8
-        ensures { result ≡ goal self.now };
-
-    fn counts(&self, x: &Resolution) -> bool
-        ensures { result ≡ test self.now x.now };
-
-    ghost aimed: { (s : Self) (x : ResolutionOf) → test s x ≡ true → aimed_at (goal s) x ≡ true };
-}
-
-// For just the move from one region to another.
-#[derive(Clone, Copy)]
-pub struct ForMove {
-    pub from: u8,
-    pub to: u8,
-}
-
-impl Sought for ForMove {
-    ghost test = { λ s y. supports_move s.from s.to y.order };
-
-    ghost goal = { λ s. s.to };
-
-    ghost aimed = { Prim.search rules };
-
-    fn target(&self) -> u8 {
-        self.to
-    }
-
-    fn counts(&self, x: &Resolution) -> bool {
-        x.order.supports_move(self.from, self.to)
-    }
-}
-
-// The same, but not of one power.
-#[derive(Clone, Copy)]
-pub struct ForMoveBut {
-    pub power: u8,
-    pub from: u8,
-    pub to: u8,
-}
-
-impl Sought for ForMoveBut {
-    ghost test = { λ s y. supports_move s.from s.to y.order && not (s.power == y.unit.power) };
-
-    ghost goal = { λ s. s.to };
-
-    ghost aimed = { Prim.search rules };
-
-    fn target(&self) -> u8 {
-        self.to
-    }
-
-    fn counts(&self, x: &Resolution) -> bool {
-        x.order.supports_move(self.from, self.to) && self.power != x.unit.power
-    }
-}
-
-// For whoever stays in a region.
-#[derive(Clone, Copy)]
-pub struct ForHold {
-    pub at: u8,
-}
-
-impl Sought for ForHold {
-    ghost test = { λ s y. supports_hold s.at y.order };
-
-    ghost goal = { λ s. s.at };
-
-    ghost aimed = { Prim.search rules };
-
-    fn target(&self) -> u8 {
-        self.at
-    }
-
-    fn counts(&self, x: &Resolution) -> bool {
-        x.order.supports_hold(self.at)
-    }
-}
-
-// One, and the supports that are sought.
-pub fn one_and_support<S: Sought>(sought: &S, lookup: &Lookup, xs: &[Resolution]) -> Span
-    requires indexed { Indexed lookup.now xs.now }
-    ensures { result ≡ sum (exactly 1) (support (S.test sought.now) xs.now) }
+// One, and the supports aimed at `r` that count.
+pub fn one_and_support<F: Fn(&Resolution) -> bool>(orders: Orders, r: u8, counts: F) -> Span
+    requires { F.IsAlwaysCallable counts }
+    ensures { (test : ResolutionOf → Bool) → Counts (FnReturnsAt F.Fn counts) r test → result ≡ sum (exactly 1) (support test orders.entry.list.now) }
 {
-    let r = sought.target();
-    let mut acc = Span {
-        least: 0,
-        greatest: 0,
-    };
-    let mut cursor = lookup.last_aimed(r, xs);
-    while cursor > 0 {
-        let i = cursor - 1;
-        let x = xs[i];
-        if sought.counts(&x) {
+    let mut acc = Span::exactly(0);
+    for &i in orders.aimed_at(r) {
+        let x = orders.list[i as usize];
+        if counts(&x) {
             acc = Span::counted(x.value).sum(acc);
         }
-        cursor = lookup.aimed_before(r, i, xs);
     }
     Span::exactly(1).sum(acc)
 }
 
 // One, and the support of the move `x`.
-pub fn full(lookup: &Lookup, x: Resolution, xs: &[Resolution]) -> Span
-    requires indexed { Indexed lookup.now xs.now }
-    ensures { result ≡ full x xs.now }
+pub fn full(orders: Orders, x: Resolution) -> Span
+    ensures { result ≡ full x orders.entry.list.now }
 {
-    one_and_support(
-        &ForMove {
-            from: x.unit.region,
-            to: x.order.aim(),
-        },
-        lookup,
-        xs,
-    )
+    let from = x.unit.region;
+    let to = x.order.aim();
+    one_and_support(orders, to, |y| y.order.supports_move(from, to))
 }
 
 // The same without what `power` supports.
-pub fn full_but(lookup: &Lookup, power: u8, x: Resolution, xs: &[Resolution]) -> Span
-    requires indexed { Indexed lookup.now xs.now }
-    ensures { result ≡ sum (exactly 1) (support_but power x xs.now) }
+pub fn full_but(orders: Orders, power: u8, x: Resolution) -> Span
+    ensures { result ≡ sum (exactly 1) (support_but power x orders.entry.list.now) }
 {
+    let from = x.unit.region;
+    let to = x.order.aim();
     one_and_support(
-        &ForMoveBut {
-            power,
-            from: x.unit.region,
-            to: x.order.aim(),
-        },
-        lookup,
-        xs,
+        orders,
+        to,
+        |y| y.order.supports_move(from, to) && power != y.unit.power,
     )
 }
