@@ -58,6 +58,22 @@ within_from i r k (x ∷ xs) h = go (within_from (i + 1) r k xs) (aimed_at r x) 
 pub aimed_within : (r : ℕ) (xs : List Resolution) → All (λ i. i < length xs) (places_aimed r xs)
 aimed_within r xs k d h = let e = get_or_default (places_aimed r xs) k d 0 h in let l = within_from 0 r k xs h in omega arith
 
+few_from : (i r : ℕ) (xs : List Resolution) → length (aimed_from i r xs) ≤ length xs
+unfolding aimed_from
+few_from i r [] = omega arith
+few_from i r (x ∷ xs) = go (few_from (i + 1) r xs) (aimed_at r x)
+  where
+    rest : List ℕ
+    rest = aimed_from (i + 1) r xs
+
+    go : length rest ≤ length xs → (t : Bool) → length (rest ++ cond t (i ∷ []) []) ≤ suc (length xs)
+    go below true = let n = length_push rest i in omega arith
+    go below false = let n : length (rest ++ []) ≡ length rest = ap length (append-nil rest) in omega arith
+
+-- no more places than orders
+pub aimed_few : (r : ℕ) (xs : List Resolution) → length (places_aimed r xs) ≤ length xs
+aimed_few r xs = few_from 0 r xs
+
 -- only a move into r goes to r
 pub goes_aimed : (r : ℕ) (x : Resolution) → goes_to r x.order ≡ true → aimed_at r x ≡ true
 goes_aimed r x e = grind arith

@@ -2,8 +2,8 @@
 #![tactic(auto)]
 
 pub mod decide;
+pub mod round;
 pub mod strengths;
 pub mod support;
 
-pub use decide::decides;
-pub use strengths::path_at;
+pub use round::Round;

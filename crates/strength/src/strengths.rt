@@ -2,13 +2,12 @@
 ghost use Rattle.std.specs.Prelude.{◌≡◌, ◌<◌, length, slice_index_or};
 ghost use Rattle.board.specs.Atlas.{board_of};
 ghost use Rattle.assignment.specs.Assignment.{nobody};
-ghost use Rattle.assignment.specs.Lookup.{Indexed};
-ghost use Rattle.paths.specs.Paths.{path, paths_of};
+ghost use Rattle.paths.specs.Paths.{path};
 ghost use Rattle.strength.specs.Strength.{head_to_head, vacates, against, attack_on, attack, prevent_of, prevent, hold_of, to_beat};
 
+use super::round::Round;
 use super::support::{ForHold, full, full_but, one_and_support};
-use assignment::{Lookup, Resolution};
-use board::Atlas;
+use assignment::{Orders, Resolution};
 use values::{Span, Tri};
 
 // Two units that move to each other's region, neither over water (the club: they meet).
@@ -33,124 +32,98 @@ pub fn vacates(x: Resolution, y: Resolution) -> Tri
 }
 
 // The attack of `x` on `y`, if `y` stays.
-pub fn against(lookup: &Lookup, x: Resolution, xs: &[Resolution], y: Resolution) -> Span
-    requires indexed { Indexed lookup.now xs.now }
-    ensures { result ≡ against x xs.now y }
+pub fn against(orders: Orders, x: Resolution, y: Resolution) -> Span
+    ensures { result ≡ against x orders.entry.list.now y }
 {
     if x.unit.power == y.unit.power {
         Span::exactly(0)
     } else {
-        full_but(lookup, y.unit.power, x, xs)
+        full_but(orders, y.unit.power, x)
     }
 }
 
-pub fn attack_on(
-    lookup: &Lookup,
-    x: Resolution,
-    xs: &[Resolution],
-    there: Option<Resolution>,
-) -> Span
-    requires indexed { Indexed lookup.now xs.now }
-    ensures { result ≡ attack_on x xs.now there }
+pub fn attack_on(orders: Orders, x: Resolution, there: Option<Resolution>) -> Span
+    ensures { result ≡ attack_on x orders.entry.list.now there }
 {
     match there {
-        None => full(lookup, x, xs),
+        None => full(orders, x),
         // Only what is needed is added up.
         Some(y) => match vacates(x, y) {
-            Tri::Yes => full(lookup, x, xs),
-            Tri::No => against(lookup, x, xs, y),
-            Tri::Open => Span::either(Tri::Open, full(lookup, x, xs), against(lookup, x, xs, y)),
+            Tri::Yes => full(orders, x),
+            Tri::No => against(orders, x, y),
+            Tri::Open => Span::either(Tri::Open, full(orders, x), against(orders, x, y)),
         },
     }
 }
 
-// The path of the unit in place `i`, from the table of this round.
-pub fn path_at(atlas: &Atlas, paths: &[Tri], i: usize, xs: &[Resolution]) -> Tri
-    requires paths { paths.now ≡ paths_of (board_of atlas.now) xs.now }
-    requires place { i < length xs.now }
-    ensures { result ≡ path (board_of atlas.now) (slice_index_or xs.now i nobody) xs.now }
-{
-    paths[i]
-}
-
-// The attack of the unit in place `i`, whose order is a move.
-pub fn attack(atlas: &Atlas, lookup: &Lookup, paths: &[Tri], i: usize, xs: &[Resolution]) -> Span
-    requires indexed { Indexed lookup.now xs.now }
-    requires paths { paths.now ≡ paths_of (board_of atlas.now) xs.now }
-    requires place { i < length xs.now }
-    ensures { result ≡ attack (board_of atlas.now) (slice_index_or xs.now i nobody) xs.now }
-{
-    let x = xs[i];
-    let there = lookup.who(x.order.aim(), xs);
-    Span::either(
-        path_at(atlas, paths, i, xs),
-        attack_on(lookup, x, xs, there),
-        Span::exactly(0),
-    )
-}
-
-pub fn prevent_of(
-    lookup: &Lookup,
-    x: Resolution,
-    xs: &[Resolution],
-    there: Option<Resolution>,
-) -> Span
-    requires indexed { Indexed lookup.now xs.now }
-    ensures { result ≡ prevent_of x xs.now there }
+pub fn prevent_of(orders: Orders, x: Resolution, there: Option<Resolution>) -> Span
+    ensures { result ≡ prevent_of x orders.entry.list.now there }
 {
     match there {
-        None => full(lookup, x, xs),
+        None => full(orders, x),
         Some(y) => {
             if head_to_head(x, y) {
-                Span::either(y.value, Span::exactly(0), full(lookup, x, xs))
+                Span::either(y.value, Span::exactly(0), full(orders, x))
             } else {
-                full(lookup, x, xs)
+                full(orders, x)
             }
         }
     }
 }
 
-// How much the move in place `i` keeps others out of the region that it goes to.
-pub fn prevent(atlas: &Atlas, lookup: &Lookup, paths: &[Tri], i: usize, xs: &[Resolution]) -> Span
-    requires indexed { Indexed lookup.now xs.now }
-    requires paths { paths.now ≡ paths_of (board_of atlas.now) xs.now }
-    requires place { i < length xs.now }
-    ensures { result ≡ prevent (board_of atlas.now) (slice_index_or xs.now i nobody) xs.now }
-{
-    let x = xs[i];
-    let there = lookup.who(x.order.aim(), xs);
-    Span::either(
-        path_at(atlas, paths, i, xs),
-        prevent_of(lookup, x, xs, there),
-        Span::exactly(0),
-    )
-}
-
 // The strength of `y` in its own region.
-pub fn hold_of(lookup: &Lookup, xs: &[Resolution], y: Resolution) -> Span
-    requires indexed { Indexed lookup.now xs.now }
-    ensures { result ≡ hold_of xs.now y }
+pub fn hold_of(orders: Orders, y: Resolution) -> Span
+    ensures { result ≡ hold_of orders.entry.list.now y }
 {
     if y.order.is_move() {
         Span::either(y.value, Span::exactly(0), Span::exactly(1))
     } else {
-        one_and_support(&ForHold { at: y.unit.region }, lookup, xs)
+        one_and_support(&ForHold { at: y.unit.region }, orders)
     }
 }
 
 // What `x` has to beat in the region that it goes to.
-pub fn to_beat(lookup: &Lookup, x: Resolution, xs: &[Resolution], there: Option<Resolution>) -> Span
-    requires indexed { Indexed lookup.now xs.now }
-    ensures { result ≡ to_beat x xs.now there }
+pub fn to_beat(orders: Orders, x: Resolution, there: Option<Resolution>) -> Span
+    ensures { result ≡ to_beat x orders.entry.list.now there }
 {
     match there {
         None => Span::exactly(0),
         Some(y) => {
             if head_to_head(x, y) {
-                full(lookup, y, xs)
+                full(orders, y)
             } else {
-                hold_of(lookup, xs, y)
+                hold_of(orders, y)
             }
         }
+    }
+}
+
+impl<'a> Round<'a> {
+    // The attack of the unit in place `i`, whose order is a move.
+    pub fn attack(self, i: usize) -> Span
+        requires place { i < length self.orders.list.now }
+        ensures { result ≡ attack (board_of self.entry.atlas.now) (slice_index_or self.entry.orders.list.now i nobody) self.entry.orders.list.now }
+    {
+        let x = self.orders.list[i];
+        let there = self.orders.who(x.order.aim());
+        Span::either(
+            self.path_at(i),
+            attack_on(self.orders, x, there),
+            Span::exactly(0),
+        )
+    }
+
+    // How much the move in place `i` keeps others out of the region that it goes to.
+    pub fn prevent(self, i: usize) -> Span
+        requires place { i < length self.orders.list.now }
+        ensures { result ≡ prevent (board_of self.entry.atlas.now) (slice_index_or self.entry.orders.list.now i nobody) self.entry.orders.list.now }
+    {
+        let x = self.orders.list[i];
+        let there = self.orders.who(x.order.aim());
+        Span::either(
+            self.path_at(i),
+            prevent_of(self.orders, x, there),
+            Span::exactly(0),
+        )
     }
 }

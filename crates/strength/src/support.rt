@@ -4,11 +4,10 @@ ghost use Rattle.values.specs.Span.{sum, exactly};
 ghost use Rattle.board.specs.Order.{supports_move, supports_hold};
 ghost use Rattle.assignment.specs.declared.resolution.Resolution.{Resolution as ResolutionOf};
 ghost use Rattle.assignment.specs.Places.{aimed_at};
-ghost use Rattle.assignment.specs.Lookup.{Indexed};
 ghost use Rattle.strength.specs.Strength.{support, support_but, full};
 ghost use Rattle.std.proofs.Common.{rules};
 
-use assignment::{Lookup, Resolution};
+use assignment::{Orders, Resolution};
 use values::Span;
 
 // Which supports are sought: all of them are aimed at one region.
@@ -96,54 +95,38 @@ impl Sought for ForHold {
 }
 
 // One, and the supports that are sought.
-pub fn one_and_support<S: Sought>(sought: &S, lookup: &Lookup, xs: &[Resolution]) -> Span
-    requires indexed { Indexed lookup.now xs.now }
-    ensures { result ≡ sum (exactly 1) (support (S.test sought.now) xs.now) }
+pub fn one_and_support<S: Sought>(sought: &S, orders: Orders) -> Span
+    ensures { result ≡ sum (exactly 1) (support (S.test sought.now) orders.entry.list.now) }
 {
-    let r = sought.target();
-    let mut acc = Span {
-        least: 0,
-        greatest: 0,
-    };
-    let mut cursor = lookup.last_aimed(r, xs);
-    while cursor > 0 {
-        let i = cursor - 1;
-        let x = xs[i];
+    let mut acc = Span::exactly(0);
+    for &i in orders.aimed_at(sought.target()) {
+        let x = orders.list[i as usize];
         if sought.counts(&x) {
             acc = Span::counted(x.value).sum(acc);
         }
-        cursor = lookup.aimed_before(r, i, xs);
     }
     Span::exactly(1).sum(acc)
 }
 
 // One, and the support of the move `x`.
-pub fn full(lookup: &Lookup, x: Resolution, xs: &[Resolution]) -> Span
-    requires indexed { Indexed lookup.now xs.now }
-    ensures { result ≡ full x xs.now }
+pub fn full(orders: Orders, x: Resolution) -> Span
+    ensures { result ≡ full x orders.entry.list.now }
 {
-    one_and_support(
-        &ForMove {
-            from: x.unit.region,
-            to: x.order.aim(),
-        },
-        lookup,
-        xs,
-    )
+    let sought = ForMove {
+        from: x.unit.region,
+        to: x.order.aim(),
+    };
+    one_and_support(&sought, orders)
 }
 
 // The same without what `power` supports.
-pub fn full_but(lookup: &Lookup, power: u8, x: Resolution, xs: &[Resolution]) -> Span
-    requires indexed { Indexed lookup.now xs.now }
-    ensures { result ≡ sum (exactly 1) (support_but power x xs.now) }
+pub fn full_but(orders: Orders, power: u8, x: Resolution) -> Span
+    ensures { result ≡ sum (exactly 1) (support_but power x orders.entry.list.now) }
 {
-    one_and_support(
-        &ForMoveBut {
-            power,
-            from: x.unit.region,
-            to: x.order.aim(),
-        },
-        lookup,
-        xs,
-    )
+    let sought = ForMoveBut {
+        power,
+        from: x.unit.region,
+        to: x.order.aim(),
+    };
+    one_and_support(&sought, orders)
 }
