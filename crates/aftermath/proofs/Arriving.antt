@@ -1,7 +1,7 @@
 -- Who came where, from a table filled from the back: who is dislodged, from where, and which regions were contested. Assumes nothing.
-use Rattle.std.proofs.Common.{◌≡◌, ℕ, zero, suc, ◌+◌, ◌<◌, ◌≤◌, Bool, true, false, cond, ◌&&◌, ◌||◌, eqb, ltb, leb, List, [], ◌∷◌, length, get_or, drop, set, Some, None, sym, refl, ap, ◌∙◌, ⊎_elim, arith}
-use Rattle.std.proofs.lemmas.List.{drop_more, drop_all, get_or-map}
-use Rattle.std.proofs.lemmas.Bool.{cases_Bool, eqb-true, eq-eqb, ne_eqb, and_right}
+use Rattle.std.proofs.Common.{◌≡◌, ℕ, zero, suc, ◌+◌, ◌<◌, Bool, true, false, cond, ◌&&◌, ◌||◌, eqb, ltb, leb, List, [], ◌∷◌, length, get_or, drop, set, Some, None, is_some, MatchOption, Option, sym, refl, ap, ◌∙◌, ⊎_elim, arith}
+use Rattle.std.proofs.lemmas.List.{drop_more, get_or-map}
+use Rattle.std.proofs.lemmas.Bool.{cases_Bool, eqb-true, eq-eqb, ne_eqb}
 use Rattle.values.specs.Fold.{gather, any, select, count_up, those, is_in}
 use Rattle.values.specs.declared.tri.Tri.{Tri}
 use Rattle.values.specs.declared.tri.Tri.TheVariants.{No, Open, Yes}
@@ -14,9 +14,9 @@ use Rattle.assignment.specs.Assignment.{nobody, entered}
 use Rattle.paths.specs.Paths.{path}
 use Rattle.game.specs.AfterMoves.{came, is_dislodged, attacked_from, bounced, contested}
 use Rattle.aftermath.specs.declared.after_moves.Arrival.{Arrival}
-use Rattle.aftermath.specs.declared.after_moves.Arrival.TheVariants.{Nobody, From, OverWater}
-use Rattle.tables.proofs.Regions.{region_at, region_skip, region_write}
-use Rattle.aftermath.specs.Arrivals.{arrival_of, arrival_in, someone, origin, Arrived, succeeded, repelled, paths_of}
+use Rattle.aftermath.specs.declared.after_moves.Arrival.TheVariants.{From, OverWater}
+use Rattle.tables.proofs.Regions.{region_at, region_same, region_put}
+use Rattle.aftermath.specs.Arrivals.{arrival_of, arrival_in, origin, Arrived, succeeded, repelled, paths_of}
 
 pub resolution_more : (xs : List Resolution) (i : ℕ) → i < length xs → drop i xs ≡ get_or xs i nobody ∷ drop (i + 1) xs
 resolution_more xs i h = drop_more xs i nobody h
@@ -28,51 +28,51 @@ came_not r x e = grind arith
 came_is : (r : ℕ) (x : Resolution) → succeeded x ≡ true → came r x ≡ eqb (aim x.order) r
 came_is r x e = grind arith
 
-pub arrived_past : (table : List Arrival) (xs : List Resolution) (i : ℕ) → i < length xs → succeeded (get_or xs i nobody) ≡ false → Arrived table (drop (i + 1) xs) → Arrived table (drop i xs)
+pub arrived_past : (table : List (Option Arrival)) (x : Resolution) (xs : List Resolution) → succeeded x ≡ false → Arrived table xs → Arrived table (x ∷ xs)
 unfolding gather
-arrived_past table xs i h e kept =
-    region_skip Nobody arrival_in table xs i nobody h (λ r. ap (λ b. cond b (arrival_of (get_or xs i nobody)) (arrival_in r (drop (i + 1) xs))) (came_not r (get_or xs i nobody) e)) kept
+arrived_past table x xs e kept = region_same None arrival_in table xs x (λ r. ap (λ b. cond b (Some (arrival_of x)) (arrival_in r xs)) (came_not r x e)) kept
 
 -- t is where it went
-pub arrived_more : (table : List Arrival) (xs : List Resolution) (i t : ℕ) (new : Arrival) → i < length xs → t < length table → t ≡ aim (get_or xs i nobody).order → succeeded (get_or xs i nobody) ≡ true → new ≡ arrival_of (get_or xs i nobody) →
-    Arrived table (drop (i + 1) xs) → Arrived (set table t new) (drop i xs)
+pub arrived_more : (table : List (Option Arrival)) (x : Resolution) (xs : List Resolution) (t : ℕ) (new : Arrival) → t < length table → t ≡ aim x.order → succeeded x ≡ true → new ≡ arrival_of x → Arrived table xs → Arrived (set table t (Some new)) (x ∷ xs)
 unfolding gather
-arrived_more table xs i t new h l went e is kept = region_write Nobody arrival_in table xs i nobody t new h l (step t true (eq-eqb t t refl) ∙ sym is) (λ r apart. step r false (ne_eqb t r (λ z. apart (sym z)))) kept
+arrived_more table x xs t new l went e is kept = region_put None arrival_in table xs x t (Some new) l (step t true (eq-eqb t t refl) ∙ sym (ap Some is)) (λ r apart. step r false (ne_eqb t r (λ z. apart (sym z)))) kept
   where
-    x : Resolution
-    x = get_or xs i nobody
-
-    step : (r : ℕ) (b : Bool) → eqb t r ≡ b → arrival_in r (x ∷ drop (i + 1) xs) ≡ cond b (arrival_of x) (arrival_in r (drop (i + 1) xs))
-    step r b q = ap (λ s. cond s (arrival_of x) (arrival_in r (drop (i + 1) xs))) (came_is r x e ∙ ap (λ n. eqb n r) (sym went) ∙ q)
+    step : (r : ℕ) (b : Bool) → eqb t r ≡ b → arrival_in r (x ∷ xs) ≡ cond b (Some (arrival_of x)) (arrival_in r xs)
+    step r b q = ap (λ s. cond s (Some (arrival_of x)) (arrival_in r xs)) (came_is r x e ∙ ap (λ n. eqb n r) (sym went) ∙ q)
 
 -- ---- who is dislodged, and from where
-someone_of : (x : Resolution) (b : Bool) → someone (cond b OverWater (From x.unit.region)) ≡ true
-someone_of x true = refl
-someone_of x false = refl
-
 yes_or : (v t : Tri) → is_yes (or_tri v t) ≡ (is_yes v || is_yes t)
 yes_or v t = grind arith
 
-entered_is : (r : ℕ) (xs : List Resolution) → is_yes (entered r xs) ≡ someone (arrival_in r xs)
+entered_is : (r : ℕ) (xs : List Resolution) → is_yes (entered r xs) ≡ is_some (arrival_in r xs)
 unfolding gather
 entered_is r [] = refl
 entered_is r (x ∷ xs) = go (goes_to r x.order) x.value (entered_is r xs)
   where
-    rest : Arrival
+    rest : Option Arrival
     rest = arrival_in r xs
 
-    go : (b : Bool) (v : Tri) → is_yes (entered r xs) ≡ someone rest → is_yes (cond b (or_tri v (entered r xs)) (entered r xs)) ≡ someone (cond (b && is_yes v) (arrival_of x) rest)
-    go true Yes e = sym (someone_of x _)
+    go : (b : Bool) (v : Tri) → is_yes (entered r xs) ≡ is_some rest → is_yes (cond b (or_tri v (entered r xs)) (entered r xs)) ≡ is_some (cond (b && is_yes v) (Some (arrival_of x)) rest)
+    go true Yes e = refl
     go true Open e = yes_or Open (entered r xs) ∙ e
     go true No e = e
     go false v e = e
 
-pub origin_is : (r : ℕ) (xs : List Resolution) → attacked_from r xs ≡ origin (arrival_in r xs)
+-- the region that it came from, if something came
+abbrev pub came_from : Option Arrival → Option ℕ
+came_from None = None
+came_from (Some a) = origin a
+
+pub goes_on : (o : Option Arrival) (r : Option ℕ) → MatchOption o (r ≡ None) (λ a. r ≡ origin a) → r ≡ came_from o
+goes_on None r h = h
+goes_on (Some a) r h = h
+
+origin_is : (r : ℕ) (xs : List Resolution) → attacked_from r xs ≡ came_from (arrival_in r xs)
 unfolding gather
 origin_is r [] = refl
 origin_is r (x ∷ xs) = go (came r x) (is_convoyed x.order) (origin_is r xs)
   where
-    go : (b w : Bool) → attacked_from r xs ≡ origin (arrival_in r xs) → cond b (cond w None (Some x.unit.region)) (attacked_from r xs) ≡ origin (cond b (cond w OverWater (From x.unit.region)) (arrival_in r xs))
+    go : (b w : Bool) → attacked_from r xs ≡ came_from (arrival_in r xs) → cond b (cond w None (Some x.unit.region)) (attacked_from r xs) ≡ came_from (cond b (Some (cond w OverWater (From x.unit.region))) (arrival_in r xs))
     go true true e = refl
     go true false e = refl
     go false w e = e
@@ -81,22 +81,22 @@ yes_and : (v t : Tri) → is_yes (and_tri (not_tri v) t) ≡ (is_no v && is_yes 
 yes_and v t = grind arith
 
 -- a is what was read of the table
-pub dislodged_is : (table : List Arrival) (xs : List Resolution) (x : Resolution) (a : Arrival) → Arrived table xs → x.unit.region < 256 → length table ≡ 256 → a ≡ get_or table x.unit.region Nobody →
-    is_dislodged xs x ≡ cond (is_move x.order) (is_no x.value && someone a) (someone a)
+pub dislodged_is : (table : List (Option Arrival)) (xs : List Resolution) (x : Resolution) (a : Option Arrival) → Arrived table xs → x.unit.region < 256 → length table ≡ 256 → a ≡ get_or table x.unit.region None →
+    is_dislodged xs x ≡ cond (is_move x.order) (is_no x.value && is_some a) (is_some a)
 dislodged_is table xs x a arrived l long e = go (is_move x.order)
   where
     r : ℕ
     r = x.unit.region
 
-    who : is_yes (entered r xs) ≡ someone a
-    who = entered_is r xs ∙ ap someone (sym (region_at Nobody arrival_in table xs r arrived l) ∙ sym e)
+    who : is_yes (entered r xs) ≡ is_some a
+    who = entered_is r xs ∙ ap is_some (sym (region_at None arrival_in table xs r arrived l) ∙ sym e)
 
-    go : (b : Bool) → is_yes (cond b (and_tri (not_tri x.value) (entered r xs)) (entered r xs)) ≡ cond b (is_no x.value && someone a) (someone a)
+    go : (b : Bool) → is_yes (cond b (and_tri (not_tri x.value) (entered r xs)) (entered r xs)) ≡ cond b (is_no x.value && is_some a) (is_some a)
     go true = yes_and x.value (entered r xs) ∙ ap (λ s. is_no x.value && s) who
     go false = who
 
-pub from_is : (table : List Arrival) (xs : List Resolution) (r : ℕ) → Arrived table xs → r < 256 → origin (get_or table r Nobody) ≡ attacked_from r xs
-from_is table xs r arrived l = ap origin (region_at Nobody arrival_in table xs r arrived l) ∙ sym (origin_is r xs)
+pub from_is : (table : List (Option Arrival)) (xs : List Resolution) (r : ℕ) → Arrived table xs → r < 256 → came_from (get_or table r None) ≡ attacked_from r xs
+from_is table xs r arrived l = ap came_from (region_at None arrival_in table xs r arrived l) ∙ sym (origin_is r xs)
 
 -- ---- which regions were contested
 in_count_up : (q a k : ℕ) (test : ℕ → Bool) → is_in q (select test (count_up a k)) ≡ ((leb a q && ltb q (a + k)) && test q)
@@ -127,41 +127,44 @@ in_those q n test = in_count_up q 0 n test ∙ (let e : (leb 0 q && ltb q (0 + n
 repelled_is : (o : Order) (v t : Tri) (q : ℕ) → (goes_to q o && (is_no v && is_yes t)) ≡ ((is_move o && (is_no v && is_yes t)) && eqb (aim o) q)
 repelled_is o v t q = grind arith
 
-hit : (rep rest : Bool) (t q n : ℕ) → (rep && ltb t n) ≡ true → (eqb q t || (ltb q n && rest)) ≡ (ltb q n && ((rep && eqb t q) || rest))
-hit rep rest t q n e = grind arith
+hit : (now rep rest : Bool) (t q n : ℕ) → (rep && ltb t n) ≡ true → ((eqb q t || now) || (ltb q n && rest)) ≡ (now || (ltb q n && ((rep && eqb t q) || rest)))
+hit now rep rest t q n e = grind arith
 
-miss : (rep rest : Bool) (t q n : ℕ) → (rep && ltb t n) ≡ false → (ltb q n && rest) ≡ (ltb q n && ((rep && eqb t q) || rest))
-miss rep rest t q n e = grind arith
+miss : (now rep rest : Bool) (t q n : ℕ) → (rep && ltb t n) ≡ false → (now || (ltb q n && rest)) ≡ (now || (ltb q n && ((rep && eqb t q) || rest)))
+miss now rep rest t q n e = grind arith
 
 module _ (m : Board) (xs : List Resolution) where
-  -- the contested regions among those of a part of the list
+  -- what is found so far, and what is still to come, are the contested regions
   abbrev pub Struck : (ℕ → Bool) → List Resolution → Type 0
-  Struck now ys = (q : ℕ) → now q ≡ (ltb q (length m.regions) && any (bounced m xs q) ys)
+  Struck now ys = (q : ℕ) → (now q || (ltb q (length m.regions) && any (bounced m xs q) ys)) ≡ (ltb q (length m.regions) && any (bounced m xs q) xs)
 
-  open_up : (i q : ℕ) → i < length xs → any (bounced m xs q) (drop i xs) ≡ ((repelled (get_or xs i nobody) (path m (get_or xs i nobody) xs) && eqb (aim (get_or xs i nobody).order) q) || any (bounced m xs q) (drop (i + 1) xs))
+  open_up : (x : Resolution) (ys : List Resolution) (q : ℕ) → any (bounced m xs q) (x ∷ ys) ≡ ((repelled x (path m x xs) && eqb (aim x.order) q) || any (bounced m xs q) ys)
   unfolding any
-  open_up i q h =
-      ap (any (bounced m xs q)) (resolution_more xs i h) ∙
-      ap (λ b. b || any (bounced m xs q) (drop (i + 1) xs)) (repelled_is (get_or xs i nobody).order (get_or xs i nobody).value (path m (get_or xs i nobody) xs) q)
+  open_up x ys q = ap (λ b. b || any (bounced m xs q) ys) (repelled_is x.order x.value (path m x xs) q)
 
-  pub path-at : (paths : List Tri) (i : ℕ) → paths ≡ paths_of m xs → i < length xs → get_or paths i No ≡ path m (get_or xs i nobody) xs
-  path-at paths i e h = ap (λ l. get_or l i No) e ∙ get_or-map (λ x. path m x xs) xs i nobody No h
-
-  module _ (i : ℕ) (h : i < length xs) (now : ℕ → Bool) (kept : Struck now (drop (i + 1) xs)) where
-    pub struck_miss : (repelled (get_or xs i nobody) (path m (get_or xs i nobody) xs) && ltb (aim (get_or xs i nobody).order) (length m.regions)) ≡ false → Struck now (drop i xs)
+  module _ (x : Resolution) (ys : List Resolution) (now : ℕ → Bool) (kept : Struck now (x ∷ ys)) where
+    pub struck_miss : (repelled x (path m x xs) && ltb (aim x.order) (length m.regions)) ≡ false → Struck now ys
     struck_miss e q =
-        kept q ∙ miss (repelled (get_or xs i nobody) (path m (get_or xs i nobody) xs)) (any (bounced m xs q) (drop (i + 1) xs)) (aim (get_or xs i nobody).order) q (length m.regions) e ∙
-        ap (λ b. ltb q (length m.regions) && b) (sym (open_up i q h))
+        miss (now q) (repelled x (path m x xs)) (any (bounced m xs q) ys) (aim x.order) q (length m.regions) e ∙ ap (λ b. now q || (ltb q (length m.regions) && b)) (sym (open_up x ys q)) ∙ kept q
 
-    pub struck_hit : (t : ℕ) (new : ℕ → Bool) → t ≡ aim (get_or xs i nobody).order → (repelled (get_or xs i nobody) (path m (get_or xs i nobody) xs) && ltb (aim (get_or xs i nobody).order) (length m.regions)) ≡ true → ((q : ℕ) → new q ≡ (eqb q t || now q)) → Struck new (drop i xs)
+    pub struck_hit : (t : ℕ) (new : ℕ → Bool) → t ≡ aim x.order → (repelled x (path m x xs) && ltb (aim x.order) (length m.regions)) ≡ true → ((q : ℕ) → new q ≡ (eqb q t || now q)) → Struck new ys
     struck_hit t new went e adds q =
-        adds q ∙ ap (λ n. eqb q n || now q) went ∙ ap (λ b. eqb q (aim (get_or xs i nobody).order) || b) (kept q) ∙
-        hit (repelled (get_or xs i nobody) (path m (get_or xs i nobody) xs)) (any (bounced m xs q) (drop (i + 1) xs)) (aim (get_or xs i nobody).order) q (length m.regions) e ∙
-        ap (λ b. ltb q (length m.regions) && b) (sym (open_up i q h))
+        ap (λ b. b || (ltb q (length m.regions) && any (bounced m xs q) ys)) (adds q ∙ ap (λ n. eqb q n || now q) went) ∙
+        hit (now q) (repelled x (path m x xs)) (any (bounced m xs q) ys) (aim x.order) q (length m.regions) e ∙
+        ap (λ b. now q || (ltb q (length m.regions) && b)) (sym (open_up x ys q)) ∙ kept q
 
-  pub struck_none : (i : ℕ) (now : ℕ → Bool) → length xs ≤ i → ((q : ℕ) → now q ≡ false) → Struck now (drop i xs)
+  pub struck_none : (now : ℕ → Bool) → ((q : ℕ) → now q ≡ false) → Struck now xs
+  struck_none now none q = ap (λ b. b || (ltb q (length m.regions) && any (bounced m xs q) xs)) (none q)
+
+  pub struck-all : (now : ℕ → Bool) → Struck now [] → (q : ℕ) → now q ≡ is_in q (contested m xs)
   unfolding any
-  struck_none i now end none q = none q ∙ sym (ap (λ l. ltb q (length m.regions) && any (bounced m xs q) l) (drop_all i xs end) ∙ and_right (ltb q (length m.regions)) false refl)
+  struck-all now h q = last (now q) (ltb q (length m.regions)) ∙ h q ∙ sym (in_those q (length m.regions) (λ r. any (bounced m xs r) xs))
+    where
+      last : (now on : Bool) → now ≡ (now || (on && false))
+      last true on = refl
+      last false true = refl
+      last false false = refl
 
-  pub struck-all : (i : ℕ) (now : ℕ → Bool) → i ≡ 0 → Struck now (drop i xs) → (q : ℕ) → now q ≡ is_in q (contested m xs)
-  struck-all i now z h q = h q ∙ ap (λ n. ltb q (length m.regions) && any (bounced m xs q) (drop n xs)) z ∙ sym (in_those q (length m.regions) (λ r. any (bounced m xs r) xs))
+  -- the path of the move that a turn takes
+  pub path-at : (paths : List Tri) (i : ℕ) (x : Resolution) (t : Tri) → paths ≡ paths_of m xs → i < length xs → x ≡ get_or xs i nobody → t ≡ get_or paths i No → t ≡ path m x xs
+  path-at paths i x t e h is it = it ∙ ap (λ l. get_or l i No) e ∙ get_or-map (λ x. path m x xs) xs i nobody No h ∙ ap (λ y. path m y xs) (sym is)

@@ -1,5 +1,5 @@
 -- For each region who came into it. Assumes nothing.
-use Rattle.std.specs.Prelude.{ℕ, Bool, true, false, cond, ◌&&◌, List, map, Some, None, Option}
+use Rattle.std.specs.Prelude.{ℕ, Bool, cond, ◌&&◌, List, map, Some, None, Option}
 use Rattle.values.specs.Fold.{gather}
 use Rattle.values.specs.Tri.{is_yes, is_no}
 use Rattle.values.specs.declared.tri.Tri.{Tri}
@@ -10,27 +10,21 @@ use Rattle.paths.specs.Paths.{path}
 use Rattle.game.specs.AfterMoves.{came}
 use Rattle.tables.specs.ByRegion.{ByRegion}
 use Rattle.aftermath.specs.declared.after_moves.Arrival.{Arrival}
-use Rattle.aftermath.specs.declared.after_moves.Arrival.TheVariants.{Nobody, From, OverWater}
+use Rattle.aftermath.specs.declared.after_moves.Arrival.TheVariants.{From, OverWater}
 
 abbrev pub arrival_of : Resolution → Arrival
 arrival_of x = cond (is_convoyed x.order) OverWater (From x.unit.region)
 
-abbrev pub arrival_in : ℕ → List Resolution → Arrival
-arrival_in r xs = gather (came r) (λ x rest. arrival_of x) Nobody xs
-
-abbrev pub someone : Arrival → Bool
-someone Nobody = false
-someone (From r) = true
-someone OverWater = true
+abbrev pub arrival_in : ℕ → List Resolution → Option Arrival
+arrival_in r xs = gather (came r) (λ x rest. Some (arrival_of x)) None xs
 
 -- the region it came from, unless it came over water
 abbrev pub origin : Arrival → Option ℕ
-origin Nobody = None
 origin (From r) = Some r
 origin OverWater = None
 
-abbrev pub Arrived : List Arrival → List Resolution → Type 0
-Arrived table xs = ByRegion Nobody arrival_in table xs
+abbrev pub Arrived : List (Option Arrival) → List Resolution → Type 0
+Arrived table xs = ByRegion None arrival_in table xs
 
 -- a move that succeeded
 abbrev pub succeeded : Resolution → Bool

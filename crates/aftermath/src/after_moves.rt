@@ -1,26 +1,23 @@
 // The board after a phase of moves: who stands where, who was dislodged, and which regions were contested.
-ghost use Rattle.std.specs.Prelude.{◌≡◌, true, ◌&&◌, List, length, replicate, IfOk, vec_len};
+ghost use Rattle.std.specs.Prelude.{◌≡◌, true, ◌&&◌, List, length, IfOk, vec_len};
 ghost use Rattle.geography.specs.RegionSet.{Holds};
 ghost use Rattle.board.specs.Board.{on_board};
 ghost use Rattle.board.specs.Order.{aim};
 ghost use Rattle.board.specs.Atlas.{board_of};
 ghost use Rattle.assignment.specs.declared.resolution.Resolution.{Resolution as Resolved};
 ghost use Rattle.game.specs.AfterMoves.{moved_unit, is_dislodged, standing, displaced, contested};
-ghost use Rattle.aftermath.specs.declared.after_moves.Arrival.TheVariants.{Nobody};
-ghost use Rattle.aftermath.specs.Arrivals.{arrival_of, someone, origin, Arrived, succeeded, repelled, paths_of};
+ghost use Rattle.aftermath.specs.Arrivals.{arrival_of, origin, Arrived, succeeded, repelled, paths_of};
 
 use assignment::Resolution;
 use board::{Atlas, Order, Unit};
 use game::Dislodged;
 use geography::RegionSet;
 use std::alloc::{AllocError, Global};
-use tables::filled;
 use values::Tri;
 
 // The move that came into a region.
 #[derive(Clone, Copy)]
 pub enum Arrival {
-    Nobody,
     From(u8),
     OverWater,
 }
@@ -36,22 +33,12 @@ impl Arrival {
         }
     }
 
-    fn someone(self) -> bool
-        ensures { result ≡ someone self }
-    {
-        match self {
-            Arrival::Nobody => false,
-            Arrival::From(_) => true,
-            Arrival::OverWater => true,
-        }
-    }
-
+    // The region that it came from, unless it came over water.
     fn origin(self) -> Option<u8>
         ensures { result ≡ origin self }
     {
         match self {
-            Arrival::Nobody => None,
-            Arrival::From(r) => Some(r),
+            Arrival::From(region) => Some(region),
             Arrival::OverWater => None,
         }
     }
@@ -63,35 +50,25 @@ fn succeeded(x: Resolution) -> bool
     x.order.is_move() && x.value.is_yes()
 }
 
-// From the last to the first, so that the first one stays.
-fn arrive(table: &mut Vec<Arrival>, xs: &[Resolution])
-    requires blank { table.old.items ≡ replicate 256 Nobody }
-    ensures long { vec_len table.new ≡ 256 }
-    ensures arrived { Arrived table.new.items xs.now }
-{
-    for i in (0..xs.len()).rev() {
-        let x = xs[i];
-        if succeeded(x) {
-            table[x.order.aim() as usize] = Arrival::of(x);
-        }
-    }
-}
-
-// For each region who came into it.
-pub fn arrivals(heap: Global, xs: &[Resolution]) -> Result<Vec<Arrival>, AllocError>
+// For each region who came into it: from the last to the first, so that the first one stays.
+pub fn arrivals(heap: Global, xs: &[Resolution]) -> Result<Vec<Option<Arrival>>, AllocError>
     ensures { IfOk result (λ v. (vec_len v ≡ 256) × Arrived v.items xs.now) }
 {
-    let mut table = filled(heap, Arrival::Nobody, 256)?;
-    arrive(&mut table, xs);
+    let mut table = vec![in heap; None; 256]?;
+    for x in xs.iter().rev() {
+        if succeeded(*x) {
+            table[x.order.aim() as usize] = Some(Arrival::of(*x));
+        }
+    }
     Ok(table)
 }
 
 // Some move came into its region, and its own move, if it has one, came to nothing.
-fn is_dislodged(table: &[Arrival], x: Resolution) -> bool
+fn is_dislodged(table: &[Option<Arrival>], x: Resolution) -> bool
     requires { length table.now ≡ 256 }
     ensures { (xs : List Resolved) → Arrived table.now xs → result ≡ is_dislodged xs x }
 {
-    let entered = table[x.unit.region as usize].someone();
+    let entered = table[x.unit.region as usize].is_some();
     let failed = x.value.is_no();
     if x.order.is_move() {
         failed && entered
@@ -114,17 +91,20 @@ fn moved_unit(x: Resolution) -> Unit
     }
 }
 
-pub fn standing(heap: Global, table: &[Arrival], xs: &[Resolution]) -> Result<Vec<Unit>, AllocError>
+pub fn standing(
+    heap: Global,
+    table: &[Option<Arrival>],
+    xs: &[Resolution],
+) -> Result<Vec<Unit>, AllocError>
     requires long { length table.now ≡ 256 }
     requires arrived { Arrived table.now xs.now }
     ensures { IfOk result (λ v. v.items ≡ standing xs.now) }
 {
     let mut out = Vec::new(heap);
     for x in xs {
-        if is_dislodged(table, *x) {
-            continue;
+        if !is_dislodged(table, *x) {
+            out.push(moved_unit(*x))?;
         }
-        out.push(moved_unit(*x))?;
     }
     Ok(out)
 }
@@ -132,7 +112,7 @@ pub fn standing(heap: Global, table: &[Arrival], xs: &[Resolution]) -> Result<Ve
 // Who was dislodged, with the region that the attack came from.
 pub fn displaced(
     heap: Global,
-    table: &[Arrival],
+    table: &[Option<Arrival>],
     xs: &[Resolution],
 ) -> Result<Vec<Dislodged>, AllocError>
     requires long { length table.now ≡ 256 }
@@ -141,11 +121,10 @@ pub fn displaced(
 {
     let mut out = Vec::new(heap);
     for x in xs {
-        if !is_dislodged(table, *x) {
-            continue;
+        if is_dislodged(table, *x) {
+            let from = table[x.unit.region as usize].and_then(Arrival::origin);
+            out.push(Dislodged { unit: x.unit, from })?;
         }
-        let from = table[x.unit.region as usize].origin();
-        out.push(Dislodged { unit: x.unit, from })?;
     }
     Ok(out)
 }
@@ -163,9 +142,8 @@ pub fn contested(atlas: &Atlas, xs: &[Resolution], paths: &[Tri]) -> RegionSet
     ensures { Holds result (contested (board_of atlas.now) xs.now) }
 {
     let mut s = RegionSet::EMPTY;
-    for i in (0..xs.len()).rev() {
-        let mover = xs[i];
-        if is_repelled(atlas, mover, paths[i]) {
+    for (mover, path) in xs.iter().zip(paths) {
+        if is_repelled(atlas, *mover, *path) {
             s.insert(mover.order.aim());
         }
     }

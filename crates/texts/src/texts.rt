@@ -7,7 +7,6 @@ ghost use Rattle.texts.specs.Slots.{Kept, note_in, text_in};
 use board::Order;
 use game::{Text, Written};
 use std::alloc::{AllocError, Global};
-use tables::filled;
 
 // What one power wrote for one region.
 #[derive(Clone, Copy)]
@@ -23,8 +22,7 @@ impl Slot {
     {
         match self {
             Slot::Nothing => Slot::Once(text),
-            Slot::Once(_) => Slot::Often,
-            Slot::Often => Slot::Often,
+            Slot::Once(_) | Slot::Often => Slot::Often,
         }
     }
 
@@ -33,9 +31,8 @@ impl Slot {
         ensures { result ≡ text_in self }
     {
         match self {
-            Slot::Nothing => None,
             Slot::Once(text) => Some(text),
-            Slot::Often => None,
+            Slot::Nothing | Slot::Often => None,
         }
     }
 }
@@ -46,8 +43,7 @@ fn note(slots: &mut Vec<Slot>, list: &[Written])
     ensures long { vec_len slots.new ≡ 1792 }
     ensures kept { Kept list.now slots.new.items }
 {
-    for i in (0..list.len()).rev() {
-        let w = list[i];
+    for w in list.iter().rev() {
         if w.power < 7 {
             let k = w.power as usize * 256 + w.region as usize;
             slots[k] = slots[k].with(w.text);
@@ -55,7 +51,8 @@ fn note(slots: &mut Vec<Slot>, list: &[Written])
     }
 }
 
-// The texts as they came, and 256 slots for each power beside them.
+// The texts as they came, and 256 slots for each power beside them: one table and no map, so that a look-up hashes nothing.
+// A power that isn't there has no slots, so a look-up asks for one of the seven.
 #[derive(Drop)]
 pub struct Texts {
     pub list: Vec<Written>,
@@ -68,7 +65,7 @@ impl Texts {
     pub fn new(heap: Global, list: Vec<Written>) -> Result<Texts, AllocError>
         ensures { IfOk result (λ t. t.list.items ≡ list.items) }
     {
-        let mut slots = filled(heap, Slot::Nothing, 1792)?;
+        let mut slots = vec![in heap; Slot::Nothing; 1792]?;
         note(&mut slots, list.as_slice());
         Ok(Texts { list, slots })
     }
@@ -87,9 +84,7 @@ pub fn order_in(text: Option<Text>) -> Order
     ensures { result ≡ order_in text }
 {
     match text {
-        None => Order::Hold,
         Some(Text::Command(order)) => order,
-        Some(Text::Build { .. }) => Order::Hold,
-        Some(Text::Disband) => Order::Hold,
+        None | Some(Text::Build { .. } | Text::Disband) => Order::Hold,
     }
 }

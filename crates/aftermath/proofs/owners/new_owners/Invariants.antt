@@ -1,6 +1,6 @@
-use Rattle.std.proofs.Common.{◌≡◌, ◌++◌, drop, vec_items}
+use Rattle.std.proofs.Common.{◌≡◌, ◌++◌, length, drop, vec_items}
 use Rattle.game.specs.Owners.{owners_from}
 use Rattle.aftermath.proofs.owners.new_owners.Given as goal
 
-abbrev pub invariant-loop-r : goal.invariant-loop-r
-invariant-loop-r l = vec_items l.out ++ owners_from l.r (drop l.r (vec_items l.atlas.regions)) l.units (drop l.r l.owners) ≡ owners_from 0 (vec_items l.atlas.regions) l.units l.owners
+abbrev pub invariant-loop-region : goal.invariant-loop-region
+invariant-loop-region l = vec_items l.out ++ owners_from (length l.yielded) (drop (length l.yielded) (vec_items l.atlas.regions)) l.units (drop (length l.yielded) l.owners) ≡ owners_from 0 (vec_items l.atlas.regions) l.units l.owners
