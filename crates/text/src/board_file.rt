@@ -13,6 +13,7 @@ use super::words::{Words, word};
 use std::alloc::{AllocError, Global};
 
 // One line as it is read: a region with its name, its kind, 1 for a centre, and 0 or its home's power plus 1; or an edge.
+// Numbers and no enums, as they are the words of the call that is made of the file.
 #[derive(Clone, Copy)]
 pub(super) enum BoardLine<'a> {
     Region {

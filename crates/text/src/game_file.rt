@@ -14,6 +14,7 @@ use super::words::{Words, word};
 use std::alloc::{AllocError, Global};
 
 // One line as it is read. An owner is its power plus 1.
+// Numbers and no enums, as they are the words of the call that is made of the file.
 #[derive(Clone, Copy)]
 pub(super) enum GameLine {
     Phase(u32),

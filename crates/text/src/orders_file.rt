@@ -14,6 +14,7 @@ use super::words::{Words, word};
 use std::alloc::{AllocError, Global};
 
 // What a text says behind its power and its region: a kind from 0 to 8, and two regions, 0 where there is none.
+// Numbers and no enums, as they are the words of the call that is made of the file.
 #[derive(Clone, Copy)]
 pub(super) struct Command {
     kind: u32,
