@@ -6,3 +6,4 @@ pub mod Owners
 pub mod Winter
 pub mod Turn
 pub mod Lawful
+pub mod Number

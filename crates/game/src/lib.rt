@@ -4,5 +4,5 @@
 pub mod phase;
 pub mod text;
 
-pub use phase::{Dislodged, Phase};
+pub use phase::{Dislodged, NoPhase, Phase};
 pub use text::{Text, Written};

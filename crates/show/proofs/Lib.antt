@@ -1,4 +1,3 @@
 pub mod Lines
-pub mod Tabled
 pub mod Marked
 pub mod Going

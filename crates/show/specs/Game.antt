@@ -1,19 +1,16 @@
 -- A game as it is printed: phase, units, those dislodged, barred regions, owners, each in the order of regions. Assumes nothing.
-use Rattle.std.specs.Prelude.{ℕ, Bool, cond, List, [], ◌++◌, Some, None, codes, Option, nat_eq, slice_index_or}
+use Rattle.std.specs.Prelude.{ℕ, ◌+◌, Bool, cond, List, [], ◌∷◌, ◌++◌, Some, None, codes, Option, nat_eq, slice_index_or}
 use Rattle.values.specs.Fold.{each, find, is_in, count_up}
 use Rattle.board.specs.declared.unit.Unit.{Unit}
 use Rattle.game.specs.declared.phase.Phase.{Phase}
-use Rattle.game.specs.declared.phase.Phase.TheVariants.{SpringMoves, SpringRetreats, AutumnMoves, AutumnRetreats, Winter}
 use Rattle.game.specs.declared.phase.Dislodged.{Dislodged}
 use Rattle.game.specs.Game.{Game}
+use Rattle.game.specs.Number.{phase_number}
 use Rattle.show.specs.Words.{Names, name, letter, arm, then, end}
 
+-- 0 for the first phase of a year, up to 4
 abbrev pub digit : Phase → List ℕ
-digit SpringMoves = codes "0"
-digit SpringRetreats = codes "1"
-digit AutumnMoves = codes "2"
-digit AutumnRetreats = codes "3"
-digit Winter = codes "4"
+digit phase = (48 + phase_number phase) ∷ []
 
 abbrev pub phase_line : Phase → List ℕ
 phase_line phase = then (codes "phase") (end (digit phase))

@@ -1,8 +1,9 @@
 // Words of a line, each put behind the bytes that stand.
+// They are bytes and no `String`, since what is read and named is a file's bytes, and the clauses speak of these.
 ghost use Rattle.std.specs.Prelude.{◌≡◌, ℕ, List, [], ◌∷◌, ◌++◌, cond, codes, OnOk};
-ghost use Rattle.show.specs.Words.{name, letter, arm, then, end, order_words};
+ghost use Rattle.show.specs.Words.{name, letter, arm, then, order_words};
 
-use super::names::Named;
+use super::printer::{Named, Printer};
 use board::Order;
 use std::alloc::AllocError;
 
@@ -34,55 +35,36 @@ pub(super) fn arm(fleet: bool) -> &'static [u8]
     if fleet { b"fleet" } else { b"army" }
 }
 
-// A name that ends a line.
-pub(super) fn end_name<N: Named>(out: &mut Vec<u8>, names: &N, r: u8) -> Result<(), AllocError>
-    ensures { OnOk result (out.new.items ≡ out.old.items ++ end (name (N.named names.now) r)) }
-{
-    push(out, names.name(r))?;
-    push(out, b"\n")
-}
-
 fn go_word(convoyed: bool) -> &'static [u8]
     ensures { result.now ≡ cond convoyed (codes "water") (codes "move") }
 {
     if convoyed { b"water" } else { b"move" }
 }
 
-// One word and a name.
-pub(super) fn push_named<N: Named>(
-    out: &mut Vec<u8>,
-    names: &N,
-    word: &[u8],
-    r: u8,
-) -> Result<(), AllocError>
-    ensures { OnOk result (out.new.items ≡ out.old.items ++ then word.now (name (N.named names.now) r)) }
-{
-    push_word(out, word)?;
-    push(out, names.name(r))
-}
+impl<'a, N: Named> Printer<'a, N> {
+    // One word and two names.
+    fn push_joined(
+        &self,
+        out: &mut Vec<u8>,
+        word: &[u8],
+        from: u8,
+        to: u8,
+    ) -> Result<(), AllocError>
+        ensures { OnOk result (out.new.items ≡ out.old.items ++ then word.now (then (name (N.named self.now.names.now) from) (name (N.named self.now.names.now) to))) }
+    {
+        push_word(out, word)?;
+        self.push_named(out, self.names.name(from), to)
+    }
 
-// One word and two names.
-fn push_joined<N: Named>(
-    out: &mut Vec<u8>,
-    names: &N,
-    word: &[u8],
-    from: u8,
-    to: u8,
-) -> Result<(), AllocError>
-    ensures { OnOk result (out.new.items ≡ out.old.items ++ then word.now (then (name (N.named names.now) from) (name (N.named names.now) to))) }
-{
-    push_word(out, word)?;
-    push_named(out, names, names.name(from), to)
-}
-
-pub(super) fn push_order<N: Named>(out: &mut Vec<u8>, names: &N, o: Order) -> Result<(), AllocError>
-    ensures { OnOk result (out.new.items ≡ out.old.items ++ order_words (N.named names.now) o) }
-{
-    match o {
-        Order::Hold => push(out, b"hold"),
-        Order::Move { to, convoyed } => push_named(out, names, go_word(convoyed), to),
-        Order::SupportHold { at } => push_named(out, names, b"holds", at),
-        Order::SupportMove { from, to } => push_joined(out, names, b"helps", from, to),
-        Order::Convoy { from, to } => push_joined(out, names, b"carries", from, to),
+    pub(super) fn push_order(&self, out: &mut Vec<u8>, o: Order) -> Result<(), AllocError>
+        ensures { OnOk result (out.new.items ≡ out.old.items ++ order_words (N.named self.now.names.now) o) }
+    {
+        match o {
+            Order::Hold => push(out, b"hold"),
+            Order::Move { to, convoyed } => self.push_named(out, go_word(convoyed), to),
+            Order::SupportHold { at } => self.push_named(out, b"holds", at),
+            Order::SupportMove { from, to } => self.push_joined(out, b"helps", from, to),
+            Order::Convoy { from, to } => self.push_joined(out, b"carries", from, to),
+        }
     }
 }

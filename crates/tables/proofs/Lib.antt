@@ -1,3 +1,4 @@
 pub mod Folds
 pub mod Regions
 pub mod Placement
+pub mod Stands

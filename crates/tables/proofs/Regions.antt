@@ -1,5 +1,5 @@
 -- A table by region, filled from the back of a list: its start, one element on, and a read. Assumes nothing.
-use Rattle.std.proofs.Common.{◌≡◌, ℕ, ◌+◌, ◌<◌, ◌≤◌, List, [], ◌∷◌, length, get_or, drop, set, replicate, sym, ap, ◌∙◌, ⊎_elim}
+use Rattle.std.proofs.Common.{◌≡◌, ℕ, ◌+◌, ◌<◌, ◌≤◌, List, [], ◌∷◌, length, get_or, drop, set, replicate, sym, ap, ◌∙◌, ⊎_elim, subst}
 use Rattle.std.proofs.lemmas.List.{drop_more, drop_all, get_or-set_same, get_or-set_other, get_or-replicate}
 use Rattle.std.proofs.lemmas.Bool.{cases_eq}
 use Rattle.tables.specs.ByRegion.{ByRegion}
@@ -9,24 +9,34 @@ module _ {X B : Type 0} (none : B) (at : ℕ → List X → B) where
   unfolding ByRegion
   region_at table xs r h l = h r l
 
-  pub region_start : (table : List B) (xs : List X) (i : ℕ) → ((r : ℕ) → at r [] ≡ none) → table ≡ replicate 256 none → length xs ≤ i → ByRegion none at table (drop i xs)
+  pub region_none : (table : List B) → ((r : ℕ) → at r [] ≡ none) → table ≡ replicate 256 none → ByRegion none at table []
   unfolding ByRegion
-  region_start table xs i nothing blank end r l = ap (λ t. get_or t r none) blank ∙ get_or-replicate 256 r none none l ∙ sym (ap (at r) (drop_all i xs end) ∙ nothing r)
+  region_none table nothing blank r l = ap (λ t. get_or t r none) blank ∙ get_or-replicate 256 r none none l ∙ sym (nothing r)
 
-  -- an element that changes nothing
-  pub region_skip : (table : List B) (xs : List X) (i : ℕ) (d : X) → i < length xs → ((r : ℕ) → at r (get_or xs i d ∷ drop (i + 1) xs) ≡ at r (drop (i + 1) xs)) →
-      ByRegion none at table (drop (i + 1) xs) → ByRegion none at table (drop i xs)
+  -- an element in front that changes nothing
+  pub region_same : (table : List B) (xs : List X) (x : X) → ((r : ℕ) → at r (x ∷ xs) ≡ at r xs) → ByRegion none at table xs → ByRegion none at table (x ∷ xs)
   unfolding ByRegion
-  region_skip table xs i d h same kept r l = kept r l ∙ sym (ap (at r) (drop_more xs i d h) ∙ same r)
+  region_same table xs x same kept r l = kept r l ∙ sym (same r)
 
   -- one that changes the entry at k
+  pub region_put : (table : List B) (xs : List X) (x : X) (k : ℕ) (v : B) → k < length table → at k (x ∷ xs) ≡ v → ((r : ℕ) → (r ≡ k → ⊥) → at r (x ∷ xs) ≡ at r xs) → ByRegion none at table xs → ByRegion none at (set table k v) (x ∷ xs)
+  unfolding ByRegion
+  region_put table xs x k v low here there kept r l = ⊎_elim same other (cases_eq r k)
+    where
+      same : r ≡ k → get_or (set table k v) r none ≡ at r (x ∷ xs)
+      same e = ap (λ n. get_or (set table k v) n none) e ∙ get_or-set_same table k v none low ∙ sym (ap (λ n. at n (x ∷ xs)) e ∙ here)
+
+      other : (r ≡ k → ⊥) → get_or (set table k v) r none ≡ at r (x ∷ xs)
+      other apart = get_or-set_other table k r v none apart ∙ kept r l ∙ sym (there r apart)
+
+  -- ---- the same, by the index of the element
+  pub region_start : (table : List B) (xs : List X) (i : ℕ) → ((r : ℕ) → at r [] ≡ none) → table ≡ replicate 256 none → length xs ≤ i → ByRegion none at table (drop i xs)
+  region_start table xs i nothing blank end = subst (λ ys. ByRegion none at table ys) (sym (drop_all i xs end)) (region_none table nothing blank)
+
+  pub region_skip : (table : List B) (xs : List X) (i : ℕ) (d : X) → i < length xs → ((r : ℕ) → at r (get_or xs i d ∷ drop (i + 1) xs) ≡ at r (drop (i + 1) xs)) →
+      ByRegion none at table (drop (i + 1) xs) → ByRegion none at table (drop i xs)
+  region_skip table xs i d h same kept = subst (λ ys. ByRegion none at table ys) (sym (drop_more xs i d h)) (region_same table (drop (i + 1) xs) (get_or xs i d) same kept)
+
   pub region_write : (table : List B) (xs : List X) (i : ℕ) (d : X) (k : ℕ) (v : B) → i < length xs → k < length table → at k (get_or xs i d ∷ drop (i + 1) xs) ≡ v →
       ((r : ℕ) → (r ≡ k → ⊥) → at r (get_or xs i d ∷ drop (i + 1) xs) ≡ at r (drop (i + 1) xs)) → ByRegion none at table (drop (i + 1) xs) → ByRegion none at (set table k v) (drop i xs)
-  unfolding ByRegion
-  region_write table xs i d k v h low here there kept r l = ⊎_elim same other (cases_eq r k)
-    where
-      same : r ≡ k → get_or (set table k v) r none ≡ at r (drop i xs)
-      same e = ap (λ n. get_or (set table k v) n none) e ∙ get_or-set_same table k v none low ∙ sym (ap (at r) (drop_more xs i d h) ∙ ap (λ n. at n (get_or xs i d ∷ drop (i + 1) xs)) e ∙ here)
-
-      other : (r ≡ k → ⊥) → get_or (set table k v) r none ≡ at r (drop i xs)
-      other apart = get_or-set_other table k r v none apart ∙ kept r l ∙ sym (ap (at r) (drop_more xs i d h) ∙ there r apart)
+  region_write table xs i d k v h low here there kept = subst (λ ys. ByRegion none at (set table k v) ys) (sym (drop_more xs i d h)) (region_put table (drop (i + 1) xs) (get_or xs i d) k v low here there kept)

@@ -1,1 +1,2 @@
 pub mod ByRegion
+pub mod Stands

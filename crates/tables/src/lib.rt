@@ -1,6 +1,8 @@
 // Tables by region.
 #![tactic(auto)]
 
+pub mod standing;
 pub mod table;
 
-pub use table::filled;
+pub use standing::Standing;
+pub use table::{by_region, filled};

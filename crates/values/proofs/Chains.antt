@@ -1,5 +1,5 @@
 -- The folds of the rules are what std's chains of iterators make. Assumes nothing.
-use Rattle.std.proofs.Common.{◌≡◌, suc, ◌+◌, Bool, cond, ◌&&◌, ◌||◌, List, [], ◌∷◌, Some, Option, filter, refl, ap, arith}
+use Rattle.std.proofs.Common.{◌≡◌, suc, ◌+◌, Bool, cond, ◌&&◌, ◌||◌, List, [], ◌∷◌, Some, filter, refl, ap, arith}
 use Rattle.std.proofs.lemmas.List.Recursion.{is_count_by}
 use Rattle.std.specs.List.{list_all, list_any, count_by, find as find_first}
 use Rattle.values.specs.Fold.{gather, all, any, select, number, find}

@@ -1,23 +1,16 @@
-use Rattle.std.proofs.Common.{◌≡◌, ◌+◌, ◌-◌, false, length, drop, vec_items, refl, subst, arith}
-use Rattle.values.specs.Fold.{any}
-use Rattle.tables.proofs.Regions.{region_start}
-use Rattle.show.specs.Tables.{wrote_at, Marked}
-use Rattle.show.proofs.Marked.{mark_more, mark_skip}
+use Rattle.std.proofs.Common.{vec_items, sym, subst, arith}
+use Rattle.show.proofs.Marked.{SoFar, marked_none, mark_skip, mark_more, marked_all}
 use Rattle.show.proofs.moves.mark_own.Goals as goal
+use Rattle.show.proofs.moves.mark_own.Goals.{then-is_own, else-is_own}
 
-pub loop-i-init : goal.loop-i-init
-unfolding any
-loop-i-init c =
-    (c.requires.long, region_start false (wrote_at c.args.table.now) (vec_items c.args.marked.now) c.args.texts.now (length c.args.texts.now) (λ r. refl) c.requires.blank (omega arith))
+pub loop-w-init : goal.loop-w-init
+loop-w-init c = (c.requires.long, marked_none _ _ _ c.requires.blank)
 
-pub loop-i-preserved-then-is_own : goal.loop-i-preserved-then-is_own
-loop-i-preserved-then-is_own c =
-    let e : c.loop-i.i ≡ c.loop-i.i - 1 + 1 = omega arith in
-    let old = subst (λ n. Marked (vec_items c.loop-i.marked) c.args.table.now (drop n c.args.texts.now)) e c.loop-i.invariant.1 in
-    (c.loop-i.invariant.0, mark_more (vec_items c.loop-i.marked) c.args.table.now c.args.texts.now (c.loop-i.i - 1) (omega arith) old c.is_own.result (omega (arith, c.loop-i.marked.ok.0)) c.is_own.ensures c.if-is_own.true)
+pub loop-w-preserved : goal.loop-w-preserved
+loop-w-preserved c = elim c.if-is_own.branch [
+  | then-is_own w ↦ let m = mark_more (vec_items c.loop-w.marked) c.args.table.now c.args.texts.now c.loop-w.w-index _ c.loop-w-test.true c.loop-w.invariant.1 (omega (arith, c.loop-w.marked.ok.0, c.loop-w.invariant.0)) w.if-is_own.ensures in rw w.marked-is (c.loop-w.invariant.0, m)
+  | else-is_own w ↦ let m = mark_skip (vec_items c.loop-w.marked) c.args.table.now c.args.texts.now c.loop-w.w-index _ c.loop-w-test.true c.loop-w.invariant.1 w.if-is_own.ensures in rw w.marked-is (c.loop-w.invariant.0, m)
+]
 
-pub loop-i-preserved : goal.loop-i-preserved
-loop-i-preserved c =
-    let e : c.loop-i.i ≡ c.loop-i.i - 1 + 1 = omega arith in
-    let old = subst (λ n. Marked (vec_items c.loop-i.marked) c.args.table.now (drop n c.args.texts.now)) e c.loop-i.invariant.1 in
-    (c.loop-i.invariant.0, mark_skip (vec_items c.loop-i.marked) c.args.table.now c.args.texts.now (c.loop-i.i - 1) (omega arith) old c.is_own.result c.is_own.ensures c.if-is_own.false)
+pub returns-clause-marked : goal.returns-clause-marked
+returns-clause-marked c = marked_all _ _ _ c.loop-w.w-index c.loop-w-test.false c.loop-w.invariant.1

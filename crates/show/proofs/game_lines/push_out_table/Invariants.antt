@@ -1,6 +1,0 @@
-use Rattle.std.proofs.Common.{◌≡◌, ◌++◌, get_or, None, vec_items}
-use Rattle.show.specs.Game.{by_region, out_line}
-use Rattle.show.proofs.game_lines.push_out_table.Given as goal
-
-abbrev pub invariant-loop-r : goal.invariant-loop-r
-invariant-loop-r g l = vec_items l.out ≡ vec_items l.initial.out ++ by_region l.r (λ r. out_line (g.N.Named.named l.names) (get_or l.table r None))

@@ -1,0 +1,10 @@
+use Rattle.std.proofs.Common.{None, vec_items, rules}
+use Rattle.tables.specs.Stands.{first_at}
+use Rattle.tables.proofs.Regions.{region_at}
+use Rattle.show.specs.Game.{unit_line, unit_at}
+use Rattle.show.proofs.printer.Printer.push_units.Goals as goal
+
+pub returns : goal.returns
+returns g c =
+    c.push_each.ensures (λ r. unit_line (g.N.Named.named c.args.self.now.names.now) (unit_at c.args.units.now r))
+    (λ r before after low byte told. let e = region_at None (first_at (λ u. u)) (vec_items c.in_ok-table.table) c.args.units.now r c.in_ok-table.ensures.1 byte in search rules)
