@@ -1,6 +1,5 @@
 -- Barred regions from the last word to the first; and the regions of a set are those of its words. Assumes nothing.
-use Rattle.std.proofs.Common.{◌≡◌, ℕ, ◌+◌, ◌<◌, ◌≤◌, Bool, true, false, cond, ◌&&◌, ◌||◌, eqb, ltb, List, [], ◌∷◌, length, get_or, drop, refl, ap, ◌∙◌}
-use Rattle.std.proofs.lemmas.List.{drop_more, drop_all}
+use Rattle.std.proofs.Common.{◌≡◌, ℕ, Bool, true, false, cond, ◌&&◌, ◌||◌, eqb, ltb, List, [], ◌∷◌, length, drop, refl, ap, ◌∙◌}
 use Rattle.std.proofs.lemmas.Bool.{and_from, and_left}
 use Rattle.values.specs.Fold.{all, any, gather, select}
 use Rattle.geography.specs.declared.region_set.RegionSet.{RegionSet}
@@ -10,29 +9,24 @@ use Rattle.position.proofs.Steps.{all_drop}
 use Rattle.calls.specs.Words.{at, every_entry}
 use Rattle.calls.proofs.Strict.{fails_from}
 
--- those from i on are on a board of n regions, and the set has them
-pub record Held (n : ℕ) (ws : List ℕ) (i : ℕ) (s : RegionSet) : Type 0 where
-  pub low : all (λ w. ltb w n) (drop i ws) ≡ true
-  pub holds : Holds s (drop i ws)
+-- they are on a board of n regions, and the set has them
+pub record Held (n : ℕ) (ws : List ℕ) (s : RegionSet) : Type 0 where
+  pub low : all (λ w. ltb w n) ws ≡ true
+  pub holds : Holds s ws
 
-pub held_none : (n : ℕ) (ws : List ℕ) (i : ℕ) → length ws ≤ i → Held n ws i empty
+pub held_none : (n : ℕ) → Held n [] empty
 unfolding all any
-held_none n ws i h = let none = drop_all i ws h in record { low = rw none refl; holds = λ q. rw none (has_none q) }
+held_none n = record { low = refl; holds = has_none }
 
-pub held_more : (n : ℕ) (ws : List ℕ) (i : ℕ) (s t : RegionSet) → i < length ws → Held n ws (i + 1) s → ltb (get_or ws i 0) n ≡ true → ((q : ℕ) → has t q ≡ (eqb q (get_or ws i 0) || has s q)) → Held n ws i t
+pub held_more : (n w : ℕ) (ws : List ℕ) (s t : RegionSet) → Held n ws s → ltb w n ≡ true → ((q : ℕ) → has t q ≡ (eqb q w || has s q)) → Held n (w ∷ ws) t
 unfolding all any
-held_more n ws i s t h later low new =
-    let more = drop_more ws i 0 h in
-    record {
-      low = rw more (and_from (ltb (get_or ws i 0) n) (all (λ w. ltb w n) (drop (i + 1) ws)) low later.low);
-      holds = λ q. rw more (new q ∙ ap (λ b. eqb q (get_or ws i 0) || b) (later.holds q));
-    }
+held_more n w ws s t later low new = record { low = and_from (ltb w n) (all (λ w. ltb w n) ws) low later.low; holds = λ q. new q ∙ ap (λ b. eqb q w || b) (later.holds q) }
 
-pub held_bad : (n : ℕ) (ws : List ℕ) (i : ℕ) → i < length ws → ltb (get_or ws i 0) n ≡ false → all (λ w. ltb w n) ws ≡ false
+pub held_bad : (n i w : ℕ) (ws later : List ℕ) → drop i ws ≡ w ∷ later → ltb w n ≡ false → all (λ w. ltb w n) ws ≡ false
 unfolding all
-held_bad n ws i h high =
+held_bad n i w ws later here high =
     fails_from (all (λ w. ltb w n) (drop i ws)) (all (λ w. ltb w n) ws) (all_drop (λ w. ltb w n) i ws)
-    (ap (all (λ w. ltb w n)) (drop_more ws i 0 h) ∙ and_left (ltb (get_or ws i 0) n) (all (λ w. ltb w n) (drop (i + 1) ws)) high)
+    (ap (all (λ w. ltb w n)) here ∙ and_left (ltb w n) (all (λ w. ltb w n) later) high)
 
 -- one word to an entry, to the end
 pub every_word : (test : ℕ → Bool) (ws : List ℕ) → every_entry (length ws) 1 (λ vs. test (at vs 0)) ws ≡ all test ws

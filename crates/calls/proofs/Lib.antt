@@ -4,3 +4,4 @@ pub mod Strict
 pub mod Barred
 pub mod GameParts
 pub mod Beginning
+pub mod Phases

@@ -11,12 +11,11 @@ pub fn read_barred(regions: u8, words: &[u32]) -> Option<RegionSet>
     ensures { MatchOption result (all (λ w. nat_lt w regions) words.now ≡ false) (λ s. (all (λ w. nat_lt w regions) words.now ≡ true) × Holds s words.now) }
 {
     let mut barred = RegionSet::EMPTY;
-    for i in (0..words.len()).rev() {
-        let w = words[i];
-        if w >= regions as u32 {
+    for word in words.iter().rev() {
+        if *word >= regions as u32 {
             return None;
         }
-        barred.insert(w as u8);
+        barred.insert(*word as u8);
     }
     Some(barred)
 }

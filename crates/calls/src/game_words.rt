@@ -6,7 +6,7 @@ ghost use Rattle.position.specs.Position.{board_of, game_of};
 ghost use Rattle.calls.specs.declared.verdict.Verdict.TheVariants.{Unlawful};
 ghost use Rattle.calls.specs.Words.{at, is_one, optional as optional_in};
 ghost use Rattle.calls.specs.Read.{read_if, ReadOr};
-ghost use Rattle.calls.specs.Begin.{unit_in, dislodged_in, phase_in};
+ghost use Rattle.calls.specs.Begin.{unit_in, dislodged_in};
 ghost use Rattle.calls.specs.Strict.{unit_on, out_on, Roomy, game_parts, game_good};
 
 use super::barred_words::read_barred;
@@ -19,19 +19,6 @@ use board::{Atlas, Unit};
 use game::{Dislodged, Phase};
 use position::Position;
 use std::alloc::Global;
-
-fn phase_of(w: u32) -> Option<Phase>
-    ensures { result ≡ read_if (nat_lt w 5) (phase_in w) }
-{
-    match w {
-        0 => Some(Phase::SpringMoves),
-        1 => Some(Phase::SpringRetreats),
-        2 => Some(Phase::AutumnMoves),
-        3 => Some(Phase::AutumnRetreats),
-        4 => Some(Phase::Winter),
-        _ => None,
-    }
-}
 
 // A unit on a board of so many regions.
 fn unit_of(regions: u8, power: u32, region: u32, fleet: u32) -> Option<Unit>
@@ -141,7 +128,7 @@ pub fn read_game(heap: Global, atlas: Atlas, s: &Sections) -> Result<Position, F
     ensures { ReadOr (game_good (atlas_board atlas) s.now) (λ p. (board_of p ≡ atlas_board atlas) × (game_of p ≡ game_parts s.now)) Unlawful result }
 {
     let regions = s.front.regions.count as u8;
-    let Some(phase) = phase_of(s.phase) else {
+    let Ok(phase) = Phase::try_from(s.phase) else {
         return Err(Fault::Refused(Verdict::Unlawful));
     };
     let Some(barred) = read_barred(regions, s.barred.words) else {

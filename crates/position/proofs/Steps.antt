@@ -1,5 +1,6 @@
 -- One element on, and the end, of loops over regions, units, those dislodged and owners; what holds of all holds of the rest. Assumes nothing.
 use Rattle.std.proofs.Common.{◌≡◌, ℕ, zero, suc, ◌+◌, ◌<◌, Bool, true, false, ◌&&◌, List, [], ◌∷◌, length, get_or, drop, None, Option, refl, ap, arith}
+use Rattle.std.specs.List.{list_all, zip}
 use Rattle.std.proofs.lemmas.List.{drop_more, drop_all}
 use Rattle.std.proofs.lemmas.Bool.{and_parts}
 use Rattle.values.specs.Fold.{all}
@@ -54,3 +55,11 @@ owners_unlike (q ∷ qs) (o ∷ os) h = rest (good_owner q o) (owners_unlike qs 
     rest : (t : Bool) → good_owners qs os ≡ false → (t && good_owners qs os) ≡ false
     rest true e = e
     rest false e = refl
+
+-- an owner for each region, as a walk over both
+pub owners_alike : (qs : List Region) (os : List (Option ℕ)) → length qs ≡ length os → list_all (λ p. good_owner p.0 p.1) (zip qs os) ≡ good_owners qs os
+unfolding good_owners
+owners_alike [] [] h = refl
+owners_alike [] (o ∷ os) h = absurd (omega (arith, h))
+owners_alike (q ∷ qs) [] h = absurd (omega (arith, h))
+owners_alike (q ∷ qs) (o ∷ os) h = ap (λ b. good_owner q o && b) (owners_alike qs os (omega (arith, h)))

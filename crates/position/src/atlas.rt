@@ -13,21 +13,13 @@ use std::alloc::{AllocError, Global};
 pub fn is_power(power: Option<u8>) -> bool
     ensures { result ≡ is_power power }
 {
-    match power {
-        None => true,
-        Some(p) => p < 7,
-    }
+    power.is_none_or(|p| p < 7)
 }
 
 fn good_homes(regions: &[Region]) -> bool
     ensures { result ≡ all (λ r. is_power r.home) regions.now }
 {
-    for region in regions {
-        if !is_power(region.home) {
-            return false;
-        }
-    }
-    true
+    regions.iter().all(|region| is_power(region.home))
 }
 
 // Whether a fleet, or else an army, can be in `r`.
@@ -56,12 +48,7 @@ fn good_edge(regions: &[Region], fleet: bool, edge: Edge) -> bool
 fn good_edges(regions: &[Region], fleet: bool, edges: &[Edge]) -> bool
     ensures { result ≡ all (good_edge (land regions.now) fleet) edges.now }
 {
-    for edge in edges {
-        if !good_edge(regions, fleet, *edge) {
-            return false;
-        }
-    }
-    true
+    edges.iter().all(|edge| good_edge(regions, fleet, *edge))
 }
 
 fn good_board(regions: &[Region], march: &[Edge], sail: &[Edge]) -> bool

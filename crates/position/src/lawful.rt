@@ -4,14 +4,13 @@ ghost use Rattle.values.specs.Fold.{all, distinct, those};
 ghost use Rattle.geography.specs.RegionSet.{has};
 ghost use Rattle.board.specs.Board.{stands};
 ghost use Rattle.board.specs.Atlas.{board_of};
-ghost use Rattle.game.specs.Game.{is_retreats};
 ghost use Rattle.game.specs.Lawful.{places, from_board, good_owner, good_owners, lawful};
 ghost use Rattle.position.specs.Tables.{game_from};
 
 use super::atlas::is_power;
 use super::piece::Standing;
 use board::{Atlas, Region, Unit};
-use game::{Dislodged, Phase};
+use game::Dislodged;
 use geography::RegionSet;
 
 fn stands(atlas: &Atlas, u: Unit) -> bool
@@ -32,8 +31,8 @@ pub fn well_placed<P: Standing>(atlas: &Atlas, pieces: &[P]) -> bool
     ensures { result ≡ (distinct (places (map P.piece pieces.now)) && all (stands (board_of atlas.now)) (map P.piece pieces.now)) }
 {
     let mut taken = RegionSet::EMPTY;
-    for i in (0..pieces.len()).rev() {
-        let u = pieces[i].unit();
+    for piece in pieces.iter().rev() {
+        let u = piece.unit();
         if !fits(atlas, u, taken) {
             return false;
         }
@@ -46,60 +45,34 @@ pub fn well_placed<P: Standing>(atlas: &Atlas, pieces: &[P]) -> bool
 fn from_board(atlas: &Atlas, from: Option<u8>) -> bool
     ensures { result ≡ from_board (board_of atlas.now) from }
 {
-    match from {
-        None => true,
-        Some(r) => atlas.on_board(r),
-    }
+    from.is_none_or(|r| atlas.on_board(r))
 }
 
 pub fn all_from_board(atlas: &Atlas, dislodged: &[Dislodged]) -> bool
     ensures { result ≡ all (λ d. from_board (board_of atlas.now) d.from) dislodged.now }
 {
-    for d in dislodged {
-        if !from_board(atlas, d.from) {
-            return false;
-        }
-    }
-    true
+    dislodged.iter().all(|d| from_board(atlas, d.from))
 }
 
 fn good_owner(region: Region, owner: Option<u8>) -> bool
     ensures { result ≡ good_owner region owner }
 {
-    match owner {
-        None => true,
-        Some(_) => region.centre && is_power(owner),
-    }
+    owner.is_none() || region.centre && is_power(owner)
 }
 
 pub fn good_owners(regions: &[Region], owners: &[Option<u8>]) -> bool
     ensures { result ≡ good_owners regions.now owners.now }
 {
-    if regions.len() != owners.len() {
-        return false;
-    }
-    for i in 0..regions.len() {
-        if !good_owner(regions[i], owners[i]) {
-            return false;
-        }
-    }
-    true
+    regions.len() == owners.len()
+        && regions
+            .iter()
+            .zip(owners.iter())
+            .all(|(region, owner)| good_owner(*region, *owner))
 }
 
 pub fn none_barred(regions: usize, barred: RegionSet) -> bool
     requires { regions ≤ 128 }
     ensures { result ≡ (length (those regions (has barred)) == 0) }
 {
-    for r in 0..regions {
-        if barred.contains(r as u8) {
-            return false;
-        }
-    }
-    true
-}
-
-pub fn is_retreats(phase: Phase) -> bool
-    ensures { result ≡ is_retreats phase }
-{
-    matches!(phase, Phase::SpringRetreats | Phase::AutumnRetreats)
+    (0..regions as u8).all(|r| !barred.contains(r))
 }

@@ -9,7 +9,7 @@ ghost use Rattle.game.specs.Lawful.{lawful};
 ghost use Rattle.position.specs.Tables.{board_from, game_from, game_on, placed_on};
 ghost use Rattle.position.specs.Position.{board_of, game_of};
 
-use super::lawful::{all_from_board, good_owners, is_retreats, none_barred, well_placed};
+use super::lawful::{all_from_board, good_owners, none_barred, well_placed};
 use super::position::Position;
 use board::{Atlas, Unit};
 use game::{Dislodged, Phase};
@@ -21,7 +21,7 @@ fn calm(phase: Phase, dislodged: &[Dislodged], regions: usize, barred: RegionSet
     requires { regions ≤ 128 }
     ensures { result ≡ (is_retreats phase || (length dislodged.now == 0 && length (those regions (has barred)) == 0)) }
 {
-    is_retreats(phase) || (dislodged.len() == 0 && none_barred(regions, barred))
+    phase.is_retreats() || (dislodged.is_empty() && none_barred(regions, barred))
 }
 
 // Units and those dislodged, each where they can be.

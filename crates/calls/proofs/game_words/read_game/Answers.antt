@@ -6,7 +6,7 @@ use Rattle.game.specs.Lawful.{lawful}
 use Rattle.position.specs.Position.{game_of}
 use Rattle.position.specs.Tables.{game_on}
 use Rattle.calls.specs.Strict.{game_parts, game_good}
-use Rattle.calls.proofs.Entries.{good_some}
+use Rattle.calls.proofs.Phases.{phase_is, phase_below}
 use Rattle.calls.proofs.Strict.{handed_on}
 use Rattle.calls.proofs.GameParts.{units_ill, dislodged_ill, barred_ill, lawful_ill, game_is, read_well}
 use Rattle.calls.proofs.game_words.read_game.Goals as goal
@@ -27,14 +27,14 @@ returns-in_err-dislodged c =
 
 -- what was read by now is the game of the parts
 gathered : (c : In_ok-dislodged) →
-    game_on c.args.atlas c.in-Some.phase (vec_items c.in_ok-units.units) (vec_items c.in_ok-dislodged.dislodged) c.in-Some-read_barred.barred (vec_items c.in_ok-owners.owners) ≡ game_parts c.args.s.now
+    game_on c.args.atlas c.in-Ok.phase (vec_items c.in_ok-units.units) (vec_items c.in_ok-dislodged.dislodged) c.in-Some.barred (vec_items c.in_ok-owners.owners) ≡ game_parts c.args.s.now
 gathered c =
-    game_is (board_of c.args.atlas) c.args.s.now c.requires.same c.in-Some.phase (vec_items c.in_ok-units.units) (vec_items c.in_ok-dislodged.dislodged) c.in-Some-read_barred.barred (vec_items c.in_ok-owners.owners)
+    game_is (board_of c.args.atlas) c.args.s.now c.requires.same c.in-Ok.phase (vec_items c.in_ok-units.units) (vec_items c.in_ok-dislodged.dislodged) c.in-Some.barred (vec_items c.in_ok-owners.owners)
     record {
-      in_phase = (good_some _ _ _ (sym c.phase_of.ensures ∙ c.in-Some.is)).1;
+      in_phase = phase_is c.args.s.now.phase c.in-Ok.phase c.in-Ok.ensures;
       units_are = c.in_ok-units.ensures.1;
       dislodged_are = c.in_ok-dislodged.ensures.1;
-      barred_are = c.in-Some-read_barred.ensures.1;
+      barred_are = c.in-Some.ensures.1;
       owners_are = c.in_ok-owners.ensures.1;
     }
 
@@ -45,7 +45,7 @@ returns-in-Some-new c =
     let board = c.in-Some-new.ensures.0 in
     let game = c.in-Some-new.ensures.1 ∙ gathered (goal.at.returns-in-Some-new c).In_ok-dislodged in
     let law : lawful m (game_parts s) ≡ true = ap (lawful m) (sym game) ∙ ap (λ b. lawful b (game_of c.in-Some-new.position)) (sym board) ∙ c.in-Some-new.position.legal in (
-      read_well m s c.requires.same c.requires.room (good_some _ _ _ (sym c.phase_of.ensures ∙ c.in-Some.is)).0 c.in-Some-read_barred.ensures.0 c.in_ok-units.ensures.0 c.in_ok-owners.ensures.0 c.in_ok-dislodged.ensures.0 law,
+      read_well m s c.requires.same c.requires.room (phase_below c.args.s.now.phase c.in-Ok.phase c.in-Ok.ensures) c.in-Some.ensures.0 c.in_ok-units.ensures.0 c.in_ok-owners.ensures.0 c.in_ok-dislodged.ensures.0 law,
       (board, game),
     )
 
