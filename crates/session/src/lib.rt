@@ -6,6 +6,7 @@ pub mod opening;
 pub mod plan;
 pub mod play;
 pub mod program;
+mod reasons;
 pub mod session;
 pub mod start;
 

@@ -3,20 +3,20 @@ use Rattle.game.specs.Turn.{turn}
 use Rattle.position.specs.Position.{board_of, game_of}
 use Rattle.session.specs.Tables.{place_names}
 use Rattle.session.proofs.Telling.{with_lines, game_only, stands-next}
-use Rattle.session.proofs.play.play_phase.Goals as goal
-use Rattle.session.proofs.play.play_phase.Goals.{After-push_position, then-tells+in_ok-play_told, else-tells+in_ok-advance+in-Some-1, else-tells+in_ok-advance+in-None-1}
+use Rattle.session.proofs.play.Playing.play_phase.Goals as goal
+use Rattle.session.proofs.play.Playing.play_phase.Goals.{After-push_position, then-tells+in_ok-play_told, else-tells+in_ok-advance+in-Some-1, else-tells+in_ok-advance+in-None-1}
 
 abbrev before : After-push_position → Type 0
-before c = board_of c.if-tells.p ≡ board_of c.args.p.now
+before c = board_of c.if-tells.p ≡ board_of c.args.self.now.position
 
 abbrev onward : After-push_position → Type 0
-onward c = game_of c.if-tells.p ≡ turn (board_of c.args.p.now) (game_of c.args.p.now) (vec_items c.args.texts.now.list)
+onward c = game_of c.if-tells.p ≡ turn (board_of c.args.self.now.position) (game_of c.args.self.now.position) (vec_items c.args.texts.now.list)
 
 pub returns : goal.returns
 returns c =
-    let m = board_of c.args.p.now in
-    let g = game_of c.args.p.now in
-    let names = place_names c.args.names.now in
+    let m = board_of c.args.self.now.position in
+    let g = game_of c.args.self.now.position in
+    let names = place_names c.args.self.now.places in
     let ws = vec_items c.args.texts.now.list in
     let old = vec_items c.args.out.now in
     let was = vec_items c.if-tells.out in
