@@ -1,5 +1,5 @@
 -- Lines in the order of regions: one more, and the same lines from what is the same for each region. Assumes nothing.
-use Rattle.std.proofs.Common.{◌≡◌, ℕ, zero, suc, ◌+◌, ◌<◌, ◌≤◌, Bool, true, false, cond, ◌||◌, eqb, List, [], ◌∷◌, ◌++◌, IfOk, Ok, Err, Result, sym, refl, ap, ◌∙◌, ⊎_elim, append_assoc, append-nil, add-zero, add_assoc, add-suc, add-one, arith}
+use Rattle.std.proofs.Common.{◌≡◌, ℕ, zero, suc, ◌+◌, ◌<◌, ◌≤◌, Bool, true, false, cond, ◌||◌, eqb, List, [], ◌∷◌, ◌++◌, sym, refl, ap, ◌∙◌, ⊎_elim, append_assoc, append-nil, add-zero, add_assoc, add-suc, add-one, arith}
 use Rattle.std.proofs.lemmas.Bool.{cases_lt, eq-eqb, ne_eqb}
 use Rattle.values.specs.Fold.{gather, any, each, count_up, select, is_in, those}
 use Rattle.show.specs.Game.{by_region}
@@ -34,18 +34,6 @@ each_same give other a (suc k) h =
 
 pub same_lines : (give other : ℕ → List ℕ) (n : ℕ) → ((r : ℕ) → r < n → give r ≡ other r) → by_region n give ≡ by_region n other
 same_lines give other n h = each_same give other 0 n (λ r l. h r (omega arith))
-
-pub all_lines : (give : ℕ → List ℕ) (old now : List ℕ) (k n : ℕ) → k ≡ n → now ≡ old ++ by_region k give → now ≡ old ++ by_region n give
-all_lines give old now k n e h = h ∙ ap (λ i. old ++ by_region i give) e
-
--- the same bytes, if they were written
-pub made_same : {X Y : Type 0} (r : Result X Y) (old now a b : List ℕ) → a ≡ b → IfOk r (λ _. now ≡ old ++ a) → IfOk r (λ _. now ≡ old ++ b)
-made_same (Ok x) old now a b e h = h ∙ ap (λ l. old ++ l) e
-made_same (Err y) old now a b e h = h
-
-pub made_then : {X Y : Type 0} {P Q : X → Type 0} (r : Result X Y) → ((x : X) → P x → Q x) → IfOk r P → IfOk r Q
-made_then (Ok x) f h = f x h
-made_then (Err y) f h = h
 
 -- what is in the list of those below n that pass the test
 below_all : (test : ℕ → Bool) (r a k : ℕ) → r < a → is_in r (select test (count_up a k)) ≡ false

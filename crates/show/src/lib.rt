@@ -1,5 +1,5 @@
 // What the programs print: games, and what is told of a phase, as bytes that grow.
-#![tactic(auto)]
+#![tactic(auto, using(crate::proofs::Lines::joins))]
 
 pub mod game_lines;
 pub mod leaving;

@@ -1,5 +1,5 @@
 // What is told of moves: a line for each unit with a text of its power, or dislodged.
-ghost use Rattle.std.specs.Prelude.{◌≡◌, Bool, false, List, [], ◌++◌, length, replicate, if◌then◌else◌, None, vec_len, OnOk, slice_index_or};
+ghost use Rattle.std.specs.Prelude.{◌≡◌, Bool, false, List, [], ◌++◌, length, if◌then◌else◌, None, vec_len, IfOk, OnOk, slice_index_or};
 ghost use Rattle.show.specs.Reports.{yes_no, answer_to, answer, marks, report_line, move_lines};
 ghost use Rattle.show.specs.Tables.{written_by, Marked, marked_line};
 
@@ -8,7 +8,7 @@ use super::words::{push, push_letter, push_word};
 use board::Order;
 use deciding::Report;
 use game::Written;
-use std::alloc::AllocError;
+use std::alloc::{AllocError, Global};
 use tables::by_region;
 
 fn yes_no(success: bool) -> &'static [u8]
@@ -61,18 +61,21 @@ fn is_own(table: &[Option<Report>], w: Written) -> bool
 }
 
 // One pass over the texts: the regions whose unit's own power wrote for it.
-fn mark_own(marked: &mut Vec<bool>, table: &[Option<Report>], texts: &[Written])
-    requires blank { marked.old.items ≡ replicate 256 false }
-    requires long { vec_len marked.old ≡ 256 }
-    requires wide { length table.now ≡ 256 }
-    ensures long { vec_len marked.new ≡ 256 }
-    ensures marked { Marked marked.new.items table.now texts.now }
+fn mark_own(
+    heap: Global,
+    table: &[Option<Report>],
+    texts: &[Written],
+) -> Result<Vec<bool>, AllocError>
+    requires { length table.now ≡ 256 }
+    ensures { IfOk result (λ v. (vec_len v ≡ 256) × Marked v.items table.now texts.now) }
 {
+    let mut marked = vec![in heap; false; 256]?;
     for w in texts {
         if is_own(table, *w) {
             marked[w.region as usize] = true;
         }
     }
+    Ok(marked)
 }
 
 impl<'a, N: Named> Printer<'a, N> {
@@ -116,9 +119,9 @@ impl<'a, N: Named> Printer<'a, N> {
     {
         let heap = *out.allocator();
         let table = by_region(heap, reports)?;
-        let mut marked = vec![in heap; false; 256]?;
-        mark_own(&mut marked, table.as_slice(), texts);
-        let (table, marked) = (table.as_slice(), marked.as_slice());
+        let table = table.as_slice();
+        let marked = mark_own(heap, table, texts)?;
+        let marked = marked.as_slice();
         self.push_each(
             out,
             |out, r| self.push_marked(out, marked[r as usize], table[r as usize]),

@@ -58,14 +58,12 @@ impl<'a, N: Named> Printer<'a, N> {
     ) -> Result<(), AllocError>
         ensures { OnOk result (out.new.items ≡ out.old.items ++ retreat_words (N.named self.now.names.now) arrives goal) }
     {
-        match goal {
-            None => push(out, b"hold gone"),
-            Some(t) => {
-                push_word(out, b"move")?;
-                push_word(out, self.names.name(t))?;
-                push(out, fate(arrives))
-            }
-        }
+        let Some(t) = goal else {
+            return push(out, b"hold gone");
+        };
+        push_word(out, b"move")?;
+        push_word(out, self.names.name(t))?;
+        push(out, fate(arrives))
     }
 
     fn push_retreat(

@@ -1,10 +1,10 @@
-use Rattle.std.proofs.Common.{vec_items, sym, subst, arith}
-use Rattle.show.proofs.Marked.{SoFar, marked_none, mark_skip, mark_more, marked_all}
+use Rattle.std.proofs.Common.{vec_items, arith}
+use Rattle.show.proofs.Marked.{marked_none, mark_skip, mark_more, marked_all}
 use Rattle.show.proofs.moves.mark_own.Goals as goal
 use Rattle.show.proofs.moves.mark_own.Goals.{then-is_own, else-is_own}
 
 pub loop-w-init : goal.loop-w-init
-loop-w-init c = (c.requires.long, marked_none _ _ _ c.requires.blank)
+loop-w-init c = (c.in_ok-marked.ensures.len, marked_none _ _ _ (c.in_ok-marked.ensures.items_if_clones_equal (λ y h. h)))
 
 pub loop-w-preserved : goal.loop-w-preserved
 loop-w-preserved c = elim c.if-is_own.branch [
@@ -12,5 +12,5 @@ loop-w-preserved c = elim c.if-is_own.branch [
   | else-is_own w ↦ let m = mark_skip (vec_items c.loop-w.marked) c.args.table.now c.args.texts.now c.loop-w.w-index _ c.loop-w-test.true c.loop-w.invariant.1 w.if-is_own.ensures in rw w.marked-is (c.loop-w.invariant.0, m)
 ]
 
-pub returns-clause-marked : goal.returns-clause-marked
-returns-clause-marked c = marked_all _ _ _ c.loop-w.w-index c.loop-w-test.false c.loop-w.invariant.1
+pub returns : goal.returns
+returns c = (c.loop-w.invariant.0, marked_all _ _ _ c.loop-w.w-index c.loop-w-test.false c.loop-w.invariant.1)

@@ -1,4 +1,4 @@
-use Rattle.std.proofs.Common.{arith, rules}
+use Rattle.std.proofs.Common.{rules}
 use Rattle.retreats.specs.Retreating.{goals_in}
 use Rattle.tables.proofs.Regions.{region_at}
 use Rattle.show.proofs.retreat_lines.alone.Goals as goal

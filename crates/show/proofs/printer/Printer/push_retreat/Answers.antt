@@ -1,6 +1,0 @@
-use Rattle.std.proofs.Common.{rules}
-use Rattle.show.proofs.Lines.{joins}
-use Rattle.show.proofs.printer.Printer.push_retreat.Goals as goal
-
-pub returns : goal.returns
-returns g c = search (rules, joins)
