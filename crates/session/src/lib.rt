@@ -1,5 +1,5 @@
 // The programs as functions: from the bytes of a board's, a game's and an orders' file to the bytes printed.
-#![tactic(auto)]
+#![tactic(auto, using(show::proofs::Lines::joins))]
 
 pub mod names;
 pub mod opening;

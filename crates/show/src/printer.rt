@@ -15,6 +15,7 @@ pub trait Named {
 }
 
 // The board's names, and how many regions it has.
+#[derive(Drop)]
 pub struct Printer<'a, N> {
     pub names: &'a N,
     pub regions: u8,
