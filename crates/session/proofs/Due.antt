@@ -1,6 +1,6 @@
 -- The blocks of orders taken one by one: what the next block adds, and the end.
 use Rattle.std.proofs.Common.{◌≡◌, ℕ, suc, ◌+◌, ◌<◌, ◌≤◌, true, false, cond, eqb, List, [], ◌∷◌, ◌++◌, length, get_or, drop, vec_items, sym, ap, ◌∙◌, append_assoc, append-nil}
-use Rattle.std.proofs.lemmas.List.{drop_more, drop_all, get_or_read}
+use Rattle.std.proofs.lemmas.List.{drop_more, drop_all}
 use Rattle.text.specs.declared.orders_file.Block.{Block}
 use Rattle.text.specs.OrdersFile.{Texts, texts_of}
 use Rattle.session.specs.Session.{distance, next_number, block_phase, turns_due, phases_until}
@@ -53,7 +53,3 @@ module _ (first k : ℕ) (blocks : List Block) (i n : ℕ) (was now all : List (
 
   pub on_empty : length blocks ≤ i → now ≡ was ++ [] ∷ [] → now ++ turns_due first n (next_number k) (blocks_of (drop i blocks)) ≡ all
   on_empty past here = on [] (turns_due first n (next_number k) (blocks_of (drop i blocks))) (turn_none first k blocks i n past) here
-
--- what was read twice in one place is the same
-pub read_twice : (xs : List Block) (i : ℕ) (x y : Block) → i < length xs → x ≡ get_or xs i x → y ≡ get_or xs i y → x ≡ y
-read_twice xs i x y within one two = get_or_read xs i x within one y ∙ sym two

@@ -1,6 +1,6 @@
 -- What is told of a phase before the position changes and after it is all that is told of it.
 use Rattle.std.proofs.Common.{◌≡◌, ℕ, Bool, true, false, cond, List, ◌++◌, length, IfOk, Some, None, Option, Result, sym, refl, ap, ◌∙◌, append_assoc, append-nil}
-use Rattle.show.proofs.Lines.{made_then}
+use Rattle.std.proofs.lemmas.Result.{IfOk-weaker}
 use Rattle.deciding.specs.declared.report.Report.{Report}
 use Rattle.board.specs.Board.{Board}
 use Rattle.deciding.specs.Outcome.{reports}
@@ -40,7 +40,7 @@ module _ (names : Names) (m : Board) (g : Game) (ws : List Written) where
 
     pub with_lines : (tells : Bool) → tells ≡ true → was ≡ old ++ phase_lines g.phase names m g ws → IfOk r (λ _. now ≡ old ++ played_bytes tells names m g ws)
     with_lines tells told before =
-        made_then r
+        IfOk-weaker r _ _
         (λ x e.
         the_next e ∙ ap (λ l. l ++ game_bytes names (length m.regions) (turn m g ws)) before ∙
         append_assoc old (phase_lines g.phase names m g ws) (game_bytes names (length m.regions) (turn m g ws)) ∙ ap (λ t. old ++ played_bytes t names m g ws) (sym told))
@@ -48,7 +48,7 @@ module _ (names : Names) (m : Board) (g : Game) (ws : List Written) where
 
     pub game_only : (tells : Bool) → tells ≡ false → was ≡ old → IfOk r (λ _. now ≡ old ++ played_bytes tells names m g ws)
     game_only tells silent before =
-        made_then r (λ x e. the_next e ∙ ap (λ l. l ++ game_bytes names (length m.regions) (turn m g ws)) before ∙ ap (λ t. old ++ played_bytes t names m g ws) (sym silent)) here
+        IfOk-weaker r _ _ (λ x e. the_next e ∙ ap (λ l. l ++ game_bytes names (length m.regions) (turn m g ws)) before ∙ ap (λ t. old ++ played_bytes t names m g ws) (sym silent)) here
 
     pub stands-next : IfOk r (λ _. next ≡ turn m g ws)
-    stands-next = made_then r (λ x e. onward) here
+    stands-next = IfOk-weaker r _ _ (λ x e. onward) here

@@ -2,7 +2,8 @@
 use Rattle.std.specs.Prelude.{ℕ, zero, suc, ◌+◌, ◌-◌, Bool, true, false, cond, List, [], ◌∷◌, ◌++◌, length, Some, None, Ok, Err, Option, Result, ◌==◌, nat_lt}
 use Rattle.board.specs.Board.{Board}
 use Rattle.game.specs.declared.phase.Phase.{Phase}
-use Rattle.game.specs.declared.phase.Phase.TheVariants.{SpringMoves, SpringRetreats, AutumnMoves, AutumnRetreats, Winter}
+use Rattle.std.specs.Option.{unwrap_or}
+use Rattle.game.specs.Number.{phase_number}
 use Rattle.game.specs.declared.text.Written.{Written}
 use Rattle.game.specs.Game.{Game}
 use Rattle.game.specs.Turn.{turn}
@@ -11,7 +12,10 @@ use Rattle.calls.specs.declared.verdict.Verdict.TheVariants.{Accepted, Misfit, B
 use Rattle.calls.specs.Verdict.{number, is_accepted}
 use Rattle.calls.specs.Begin.{begin_verdict, board_in, game_in}
 use Rattle.calls.specs.Turn.{turn_verdict, turn_game, texts_in}
+use Rattle.text.specs.declared.refusal.Reason.{Reason}
+use Rattle.text.specs.declared.refusal.Reason.TheVariants.{Misfit as MisfitFile, BadText as BadTextFile, Unlawful as UnlawfulFile}
 use Rattle.text.specs.declared.refusal.Refusal.{Refusal}
+use Rattle.text.specs.Refusal.{number as reason_number}
 use Rattle.text.specs.BoardFile.{board_file}
 use Rattle.text.specs.GameFile.{game_file}
 use Rattle.text.specs.OrdersFile.{Texts, orders_file}
@@ -36,18 +40,22 @@ abbrev pub and_then : {A B : Type 0} → Result A Refusal → (A → Result B Re
 and_then (Ok x) others = others x
 and_then (Err e) others = Err e
 
+-- why files are refused whose words got this verdict; acceptance is never asked
+abbrev pub reason_of : Verdict → Reason
+reason_of Accepted = MisfitFile
+reason_of Misfit = MisfitFile
+reason_of BadText = BadTextFile
+reason_of Unlawful = UnlawfulFile
+
 -- the words are refused as a whole, at no line
 abbrev pub refusal : Verdict → Refusal
-refusal v = record { number = number v; line = 0 }
+refusal v = record { reason = reason_of v; line = 0 }
 
 abbrev pub opening_in : Names → List ℕ → Opening
 opening_in names ws = record { names = names; board = board_in ws; game = game_in ws }
 
 abbrev pub judged : Names → List ℕ → Verdict → Result Opening Refusal
-judged names ws Accepted = Ok (opening_in names ws)
-judged names ws Misfit = Err (refusal Misfit)
-judged names ws BadText = Err (refusal BadText)
-judged names ws Unlawful = Err (refusal Unlawful)
+judged names ws v = cond (is_accepted v) (Ok (opening_in names ws)) (Err (refusal v))
 
 abbrev pub opened : List ℕ → List ℕ → Result Opening Refusal
 opened board game =
@@ -58,13 +66,6 @@ opened board game =
 
 -- ---- which texts are due
 
-abbrev pub phase_number : Phase → ℕ
-phase_number SpringMoves = 0
-phase_number SpringRetreats = 1
-phase_number AutumnMoves = 2
-phase_number AutumnRetreats = 3
-phase_number Winter = 4
-
 -- after winter comes spring
 abbrev pub next_number : ℕ → ℕ
 next_number k = cond (nat_lt k 4) (k + 1) 0
@@ -74,12 +75,8 @@ abbrev pub distance : ℕ → ℕ → ℕ
 distance k n = cond (nat_lt n k) (n + 5 - k) (n - k)
 
 -- texts without a phase line are of the phase that the game began with
-abbrev pub phase_or : ℕ → Option ℕ → ℕ
-phase_or first None = first
-phase_or first (Some n) = n
-
 abbrev pub block_phase : ℕ → Texts → ℕ
-block_phase first b = phase_or first b.phase
+block_phase first b = unwrap_or b.phase first
 
 -- whether the next block is of phase k
 abbrev pub is_due : ℕ → ℕ → List Texts → Bool
@@ -143,12 +140,12 @@ turns_of program phase bs = turns_due (phase_number phase) (phase_count program 
 
 abbrev pub orders_bytes : Program → Opening → Result (List Texts) Refusal → List ℕ
 orders_bytes program o (Ok bs) = run_bytes (tells_phases program) o.names o.board o.game (turns_of program o.game.phase bs)
-orders_bytes program o (Err e) = refused_bytes o.names o.board o.game e.number e.line
+orders_bytes program o (Err e) = refused_bytes o.names o.board o.game (reason_number e.reason) e.line
 
 -- where no game stands yet only the refusal is printed
 abbrev pub opened_bytes : Program → Result Opening Refusal → List ℕ → List ℕ
 opened_bytes program (Ok o) orders = orders_bytes program o (orders_file o.names orders)
-opened_bytes program (Err e) orders = refusal_bytes e.number e.line
+opened_bytes program (Err e) orders = refusal_bytes (reason_number e.reason) e.line
 
 abbrev pub program_bytes : Program → List ℕ → List ℕ → List ℕ → List ℕ
 program_bytes program board game orders = opened_bytes program (opened board game) orders

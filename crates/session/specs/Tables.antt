@@ -16,7 +16,7 @@ use Rattle.text.specs.OrdersFile.{Texts, texts_of}
 use Rattle.show.specs.Words.{Names}
 use Rattle.show.specs.Reports.{move_lines, retreat_lines, winter_lines}
 use Rattle.session.specs.declared.start.Gazetteer.{Gazetteer}
-use Rattle.session.specs.declared.start.Opening.{Opening as Opened}
+use Rattle.session.specs.declared.start.Playing.{Playing}
 use Rattle.session.specs.Session.{Opening}
 
 abbrev pub place_names : Gazetteer → Names
@@ -26,8 +26,8 @@ place_names g = names_of g.names
 abbrev pub opening_at : Names → Position → Opening
 opening_at names p = record { names = names; board = board_of p; game = game_of p }
 
-abbrev pub opening_of : Opened → Opening
-opening_of o = opening_at (place_names o.places) o.position
+abbrev pub opening_of : Playing → Opening
+opening_of game = opening_at (place_names game.places) game.position
 
 abbrev pub blocks_of : List Block → List Texts
 blocks_of blocks = map texts_of blocks

@@ -1,7 +1,7 @@
 // Which texts are due in which phase.
 ghost use Rattle.std.specs.Prelude.{◌≡◌, ℕ, ◌+◌, List, IfOk, ◌==◌};
 ghost use Rattle.text.specs.OrdersFile.{texts_of};
-ghost use Rattle.session.specs.Session.{phase_number, next_number, distance, phase_or, block_phase, turns_due, phases_until, phase_count, turns_of};
+ghost use Rattle.session.specs.Session.{next_number, distance, block_phase, turns_due, phases_until, phase_count, turns_of};
 ghost use Rattle.session.specs.Tables.{blocks_of, turns_in};
 
 use super::program::Program;
@@ -9,33 +9,11 @@ use game::Phase;
 use std::alloc::{AllocError, Global};
 use text::Block;
 
-fn number(phase: Phase) -> u32
-    ensures { result ≡ phase_number phase }
-{
-    match phase {
-        Phase::SpringMoves => 0,
-        Phase::SpringRetreats => 1,
-        Phase::AutumnMoves => 2,
-        Phase::AutumnRetreats => 3,
-        Phase::Winter => 4,
-    }
-}
-
-// After winter comes spring.
+// After winter comes spring. It counts in the numbers of phase lines, which may be any words of a call.
 fn next(phase: u32) -> u32
     ensures { result ≡ next_number phase }
 {
     if phase < 4 { phase + 1 } else { 0 }
-}
-
-// Texts without a phase line are of the phase that the game began with.
-fn phase_or(first: u32, phase: Option<u32>) -> u32
-    ensures { result ≡ phase_or first phase }
-{
-    match phase {
-        None => first,
-        Some(n) => n,
-    }
 }
 
 // How many phases are played up to and with phase `n`.
@@ -56,11 +34,8 @@ fn phases_until(first: u32, blocks: &[Block]) -> Result<usize, AllocError>
     let mut count = 0usize;
     let mut phase = first;
     for block in blocks {
-        let n = phase_or(first, block.phase);
-        let Some(sum) = count.checked_add(phases_to(phase, n)) else {
-            return Err(AllocError {});
-        };
-        count = sum;
+        let n = block.phase.unwrap_or(first);
+        count = count.checked_add(phases_to(phase, n)).ok_or(AllocError)?;
         phase = next(n);
     }
     Ok(count)
@@ -80,7 +55,7 @@ fn phase_count(program: Program, first: u32, blocks: &[Block]) -> Result<usize, 
 fn is_due(first: u32, phase: u32, block: &Block) -> bool
     ensures { result ≡ (phase == block_phase first (texts_of block.now)) }
 {
-    phase == phase_or(first, block.phase)
+    phase == block.phase.unwrap_or(first)
 }
 
 // The texts of `count` phases: those of the next block where it is due, else none.
@@ -94,11 +69,11 @@ fn turns_due<'a>(
 {
     let mut turns = Vec::new(heap);
     let mut phase = first;
-    let mut taken = 0usize;
+    let mut waiting = blocks;
     for _ in 0..count {
-        if taken < blocks.len() && is_due(first, phase, &blocks[taken]) {
-            turns.push(blocks[taken].words.as_slice())?;
-            taken += 1;
+        if let [block, others @ ..] = waiting && is_due(first, phase, block) {
+            turns.push(block.words.as_slice())?;
+            waiting = others;
         } else {
             turns.push(&[])?;
         }
@@ -116,7 +91,7 @@ pub fn turns_of<'a>(
 ) -> Result<Vec<&'a [u32]>, AllocError>
     ensures { IfOk result (λ v. turns_in v.items ≡ turns_of program phase (blocks_of blocks.now)) }
 {
-    let first = number(phase);
+    let first = u32::from(u8::from(phase));
     let count = phase_count(program, first, blocks)?;
     turns_due(heap, first, count, blocks)
 }

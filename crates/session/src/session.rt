@@ -6,9 +6,8 @@ ghost use Rattle.session.specs.Tables.{opening_of};
 
 use super::opening::open;
 use super::plan::turns_of;
-use super::play::{refuse, run};
 use super::program::Program;
-use super::start::Opening;
+use super::start::Playing;
 use show::push_refusal;
 use std::alloc::{AllocError, Global};
 use text::{Fault, read_orders};
@@ -27,32 +26,23 @@ fn tells_phases(program: Program) -> bool
 fn play_orders(
     heap: Global,
     program: Program,
-    opening: Opening,
+    mut game: Playing,
     orders: &[u8],
 ) -> Result<Vec<u8>, AllocError>
-    ensures { IfOk result (λ v. v.items ≡ orders_bytes program (opening_of opening.entry) (orders_file (opening_of opening.entry).names orders.now)) }
+    ensures { IfOk result (λ v. v.items ≡ orders_bytes program (opening_of game.entry) (orders_file (opening_of game.entry).names orders.now)) }
 {
     let mut out = Vec::new(heap);
-    let names = opening.places;
-    let mut p = opening.position;
-    match read_orders(heap, &names.names, orders) {
+    match read_orders(heap, &game.places.names, orders) {
         Ok(blocks) => {
-            let turns = turns_of(heap, program, p.phase, blocks.as_slice())?;
-            run(
-                heap,
-                &mut out,
-                &names,
-                &mut p,
-                tells_phases(program),
-                turns.as_slice(),
-            )?;
+            let turns = turns_of(heap, program, game.position.phase, blocks.as_slice())?;
+            game.run(&mut out, tells_phases(program), turns.as_slice())?;
             Ok(out)
         }
-        Err(Fault::At(e)) => {
-            refuse(heap, &mut out, &names, &p, e.number, e.line)?;
+        Err(Fault::At(refusal)) => {
+            game.refuse(&mut out, refusal)?;
             Ok(out)
         }
-        Err(Fault::NoMemory) => Err(AllocError {}),
+        Err(Fault::NoMemory) => Err(AllocError),
     }
 }
 
@@ -66,17 +56,17 @@ fn play_files(
     ensures { IfOk result (λ v. v.items ≡ program_bytes program board.now game.now orders.now) }
 {
     match open(heap, board, game) {
-        Ok(opening) => play_orders(heap, program, opening, orders),
-        Err(Fault::At(e)) => {
+        Ok(game) => play_orders(heap, program, game, orders),
+        Err(Fault::At(refusal)) => {
             let mut out = Vec::new(heap);
-            push_refusal(heap, &mut out, e.number, e.line)?;
+            push_refusal(heap, &mut out, u8::from(refusal.reason), refusal.line)?;
             Ok(out)
         }
-        Err(Fault::NoMemory) => Err(AllocError {}),
+        Err(Fault::NoMemory) => Err(AllocError),
     }
 }
 
-// One phase.
+// One phase. Each of the three states which bytes its program prints.
 pub fn referee(
     heap: Global,
     board: &[u8],

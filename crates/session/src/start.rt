@@ -1,4 +1,4 @@
-// What a game begins with.
+// What is played: a position, and the names of its board's regions.
 use position::Position;
 use text::Names;
 
@@ -8,8 +8,9 @@ pub struct Gazetteer<'a> {
     pub names: Names<'a>,
 }
 
+// A game, as it begins and as it goes on.
 #[derive(Drop)]
-pub struct Opening<'a> {
+pub struct Playing<'a> {
     pub places: Gazetteer<'a>,
     pub position: Position,
 }

@@ -1,4 +1,5 @@
+pub mod Chains
 pub mod Steps
-pub mod Lookups
+pub mod Places
 pub mod Reading
 pub mod Blocks

@@ -1,17 +1,18 @@
 -- A game's file: the forms of its lines, and what they come to. Assumes nothing.
 use Rattle.std.specs.Prelude.{ℕ, ◌+◌, cond, List, [], ◌∷◌, ◌++◌, length, replicate, is_some, Some, None, vec_items, codes, Option, Result, ◌==◌, slice_index, slice_set}
+use Rattle.std.specs.Option.{option_map}
 use Rattle.text.specs.declared.refusal.Refusal.{Refusal}
 use Rattle.text.specs.declared.game_file.GameLine.{GameLine}
 use Rattle.text.specs.declared.game_file.GameLine.TheVariants.{Phase, Standing, Out, Barred, Owner}
 use Rattle.text.specs.declared.game_file.GameFile.{GameFile}
 use Rattle.text.specs.Lines.{Step, read_file}
-use Rattle.text.specs.Words.{Form, next, optional, end, nothing, onward, place, arm, power, phase}
+use Rattle.text.specs.Words.{Form, next, optional, end, nothing, onward, place, arm, power, phase_alone}
 
 -- ---- the forms of lines
 
 -- N
 abbrev pub phase_form : Form GameLine
-phase_form = next phase (λ n. end (Phase n))
+phase_form words = option_map Phase (phase_alone words)
 
 -- P army|fleet NAME
 abbrev pub unit_form : List (List ℕ) → Form GameLine

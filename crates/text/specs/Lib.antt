@@ -2,6 +2,7 @@ pub mod Refusal
 pub mod Lines
 pub mod Words
 pub mod Reader
+pub mod Taking
 pub mod Names
 pub mod BoardFile
 pub mod GameFile

@@ -1,16 +1,25 @@
 -- Why a file is refused, and what a reader that may want memory answers. Assumes nothing.
 use Rattle.std.specs.Prelude.{◌≡◌, ℕ, Bool, true, false, Some, None, Ok, Err, Option, Result}
+use Rattle.text.specs.declared.refusal.Reason.{Reason}
+use Rattle.text.specs.declared.refusal.Reason.TheVariants.{Misfit, BadText, Unlawful, Unreadable}
 use Rattle.text.specs.declared.refusal.Refusal.{Refusal}
 use Rattle.text.specs.declared.refusal.Fault.{Fault}
 use Rattle.text.specs.declared.refusal.Fault.TheVariants.{At, NoMemory}
 
+-- the number that is printed of a reason
+abbrev pub number : Reason → ℕ
+number Misfit = 1
+number BadText = 2
+number Unlawful = 3
+number Unreadable = 4
+
 -- the line is of no known form
 abbrev pub unreadable : ℕ → Refusal
-unreadable line = record { number = 4; line = line }
+unreadable line = record { reason = Unreadable; line = line }
 
 -- the file is too long, or its words don't fit their counts
 abbrev pub misfit : Refusal
-misfit = record { number = 1; line = 0 }
+misfit = record { reason = Misfit; line = 0 }
 
 -- a reader of one line gives just what its form says, or refuses the line
 abbrev pub Reads : {T V : Type 0} → (T → V) → Option V → ℕ → Result T Refusal → Type 0

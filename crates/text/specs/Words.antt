@@ -83,5 +83,9 @@ begins text words = bytes_eq (front words) text
 abbrev pub optional : {X : Type 0} → List ℕ → Form X → Form X → Form X
 optional text present absent words = cond (begins text words) (present (behind words)) (absent words)
 
+-- a phase, and no word behind it
+abbrev pub phase_alone : Form ℕ
+phase_alone = next phase (λ n. end n)
+
 abbrev pub nothing : {X : Type 0} → Form X
 nothing words = None

@@ -1,18 +1,19 @@
 // A board's file: its names, its regions and its edges.
 ghost use Rattle.std.specs.Prelude.{◌≡◌, ℕ, ◌+◌, ◌<◌, ◌≤◌, Bool, true, false, cond, List, [], ◌∷◌, ◌++◌, OnOk};
-ghost use Rattle.text.specs.Refusal.{Reads, Advances, Answers};
-ghost use Rattle.text.specs.Lines.{line_read};
+ghost use Rattle.text.specs.Refusal.{Reads, Answers};
 ghost use Rattle.text.specs.Names.{names_of};
 ghost use Rattle.text.specs.Reader.{left};
-ghost use Rattle.text.specs.BoardFile.{region_form, edge_form, board_form, board_step, board_file, no_board, with_entry, entry_of, board_entries};
+ghost use Rattle.text.specs.BoardFile.{BoardEntries, region_form, edge_form, board_form, board_step, board_file, no_board, with_entry, entry_of, board_entries};
 
-use super::lines::{Line, Lines, within_limit};
+use super::lines::Line;
 use super::names::Names;
+use super::reader::{Reader, read_whole};
 use super::refusal::{Fault, Refusal};
 use super::words::{Words, word};
 use std::alloc::{AllocError, Global};
 
 // One line as it is read: a region with its name, its kind, 1 for a centre, and 0 or its home's power plus 1; or an edge.
+// Numbers and no enums, as they are the words of the call that is made of the file.
 #[derive(Clone, Copy)]
 pub(super) enum BoardLine<'a> {
     Region {
@@ -118,10 +119,16 @@ impl<'a> BoardFile<'a> {
             BoardLine::Sail { one, two } => self.sail.extend_from_slice(&[word(one)?, word(two)?]),
         }
     }
+}
 
-    fn read(&mut self, line: Line<'a>) -> Result<(), Fault>
-        ensures { Advances (line_read board_step (board_entries self.old) line.entry.bytes.now) line.entry.number (board_entries self.new) result }
-    {
+impl<'a> Reader<'a> for BoardFile<'a> {
+    ghost Known = { BoardEntries };
+
+    ghost known = { board_entries };
+
+    ghost step = { λ board. board_step };
+
+    fn read(&mut self, line: Line<'a>) -> Result<(), Fault> {
         let Some(words) = line.words()? else {
             return Ok(());
         };
@@ -134,11 +141,5 @@ impl<'a> BoardFile<'a> {
 pub fn read_board<'a>(heap: Global, text: &'a [u8]) -> Result<BoardFile<'a>, Fault>
     ensures { Answers board_entries (board_file text.now) result }
 {
-    within_limit(text)?;
-    let mut lines = Lines::of(text);
-    let mut board = BoardFile::new(heap);
-    while let Some(line) = lines.take() {
-        board.read(line)?;
-    }
-    Ok(board)
+    read_whole(BoardFile::new(heap), text)
 }

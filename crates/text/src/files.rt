@@ -50,7 +50,7 @@ pub fn begin_words(heap: Global, board: &BoardFile, game: &GameFile) -> Result<V
     ensures { Answers words_in (begin_words (board_entries board.now) (game_entries game.now)) result }
 {
     let Some(phase) = game.phase else {
-        return Err(Fault::At(Refusal { number: 1, line: 0 }));
+        return Err(Fault::At(Refusal::misfit()));
     };
     let mut words = count_words(heap, board, game)?;
     push_board(&mut words, board)?;

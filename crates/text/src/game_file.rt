@@ -2,18 +2,19 @@
 ghost use Rattle.std.specs.Prelude.{◌≡◌, ℕ, ◌+◌, ◌<◌, ◌≤◌, Bool, true, false, cond, List, [], ◌∷◌, ◌++◌, length, IfOk};
 ghost use Rattle.text.specs.declared.game_file.GameLine.TheVariants.{Owner};
 ghost use Rattle.text.specs.Refusal.{Reads, Steps, Advances, Answers};
-ghost use Rattle.text.specs.Lines.{line_read};
 ghost use Rattle.text.specs.Names.{names_of};
 ghost use Rattle.text.specs.Reader.{left};
-ghost use Rattle.text.specs.GameFile.{phase_form, unit_form, out_form, barred_form, owner_form, game_form, game_step, game_file, no_game, with_line, from_word, game_entries};
+ghost use Rattle.text.specs.GameFile.{GameEntries, unit_form, out_form, barred_form, owner_form, game_form, game_step, game_file, no_game, with_line, from_word, game_entries};
 
-use super::lines::{Line, Lines, within_limit};
+use super::lines::Line;
 use super::names::Names;
+use super::reader::{Reader, read_whole};
 use super::refusal::{Fault, Refusal};
 use super::words::{Words, word};
 use std::alloc::{AllocError, Global};
 
 // One line as it is read. An owner is its power plus 1.
+// Numbers and no enums, as they are the words of the call that is made of the file.
 #[derive(Clone, Copy)]
 pub(super) enum GameLine {
     Phase(u32),
@@ -43,15 +44,6 @@ pub struct GameFile {
     pub outs: Vec<u32>,
     pub barred: Vec<u32>,
     pub owners: Vec<u32>,
-}
-
-// N
-fn phase_line(mut words: Words) -> Result<GameLine, Refusal>
-    ensures { Reads (λ x. x) (phase_form (left words.entry)) words.entry.line result }
-{
-    let n = words.phase()?;
-    words.end()?;
-    Ok(GameLine::Phase(n))
 }
 
 // P army|fleet NAME
@@ -113,7 +105,7 @@ fn game_line(names: &Names, mut words: Words) -> Result<GameLine, Refusal>
     ensures { Reads (λ x. x) (game_form (names_of names.now) (left words.entry)) words.entry.line result }
 {
     if words.skip(b"phase") {
-        phase_line(words)
+        Ok(GameLine::Phase(words.phase_alone()?))
     } else if words.skip(b"unit") {
         unit_line(names, words)
     } else if words.skip(b"out") {
@@ -157,7 +149,7 @@ impl GameFile {
     {
         if region < self.owners.len() {
             if self.owners[region] != 0 {
-                return Err(Refusal { number: 4, line });
+                return Err(Refusal::unreadable(line));
             }
             self.owners[region] = owner;
         }
@@ -170,7 +162,7 @@ impl GameFile {
         match entry {
             GameLine::Phase(n) => {
                 if self.phase.is_some() {
-                    return Err(Fault::At(Refusal { number: 4, line }));
+                    return Err(Fault::At(Refusal::unreadable(line)));
                 }
                 self.phase = Some(n);
             }
@@ -196,28 +188,36 @@ impl GameFile {
         }
         Ok(())
     }
+}
 
-    fn read(&mut self, names: &Names, line: Line) -> Result<(), Fault>
-        ensures { Advances (line_read (game_step (names_of names.now)) (game_entries self.old) line.entry.bytes.now) line.entry.number (game_entries self.new) result }
-    {
+// The regions' names stand in the board's file.
+#[derive(Drop)]
+struct GameReader<'n, 'a> {
+    names: &'n Names<'a>,
+    game: GameFile,
+}
+
+impl<'l, 'n, 'a> Reader<'l> for GameReader<'n, 'a> {
+    ghost Known = { GameEntries };
+
+    ghost known = { λ reader. game_entries reader.game };
+
+    ghost step = { λ reader. game_step (names_of reader.names.now) };
+
+    fn read(&mut self, line: Line<'l>) -> Result<(), Fault> {
         let Some(words) = line.words()? else {
             return Ok(());
         };
-        let entry = game_line(names, words)?;
-        self.add(entry, line.number)?;
+        let entry = game_line(self.names, words)?;
+        self.game.add(entry, line.number)?;
         Ok(())
     }
 }
 
-// The regions' names stand in the board's file.
 pub fn read_game(heap: Global, names: &Names, text: &[u8]) -> Result<GameFile, Fault>
     ensures { Answers game_entries (game_file (names_of names.now) text.now) result }
 {
-    within_limit(text)?;
-    let mut lines = Lines::of(text);
-    let mut game = GameFile::new(heap, names.count())?;
-    while let Some(line) = lines.take() {
-        game.read(names, line)?;
-    }
-    Ok(game)
+    let game = GameFile::new(heap, names.count())?;
+    let reader = read_whole(GameReader { names, game }, text)?;
+    Ok(reader.game)
 }

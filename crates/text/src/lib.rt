@@ -7,6 +7,7 @@ pub mod game_file;
 pub mod lines;
 pub mod names;
 pub mod orders_file;
+mod reader;
 pub mod refusal;
 pub mod words;
 
@@ -15,4 +16,4 @@ pub use files::begin_words;
 pub use game_file::{GameFile, read_game};
 pub use names::Names;
 pub use orders_file::{Block, read_orders};
-pub use refusal::{Fault, Refusal};
+pub use refusal::{Fault, Reason, Refusal};

@@ -1,7 +1,8 @@
 // A text's lines and a line's words, as parts of the text.
-ghost use Rattle.std.specs.Prelude.{◌≡◌, ℕ, ◌+◌, ◌<◌, ◌≤◌, Bool, true, false, cond, List, [], ◌∷◌, length, IfSome, Ok, Err, MatchOption, OnSome};
+ghost use Rattle.std.specs.Prelude.{◌≡◌, ℕ, ◌+◌, ◌<◌, ◌≤◌, Bool, true, false, cond, List, [], ◌∷◌, length, Ok, Err};
+ghost use Rattle.std.specs.Iterator.{at_most};
 ghost use Rattle.text.specs.Refusal.{misfit};
-ghost use Rattle.text.specs.Lines.{lines_of, part_length, is_long_file};
+ghost use Rattle.text.specs.Lines.{part_length, is_long_file};
 ghost use Rattle.text.specs.Reader.{Says};
 
 use super::refusal::Refusal;
@@ -9,16 +10,15 @@ use super::words::Words;
 
 const NEWLINE: u8 = 10;
 
+// How many bytes stand before the first `sep`.
 pub(super) fn part_length(bytes: &[u8], sep: u8) -> usize
     ensures value { result ≡ part_length sep bytes.now }
     ensures upper_bound { result ≤ length bytes.now }
 {
-    for (i, b) in bytes.iter().enumerate() {
-        if *b == sep {
-            return i;
-        }
-    }
-    bytes.len()
+    bytes
+        .iter()
+        .position(|b| *b == sep)
+        .unwrap_or(bytes.len())
 }
 
 // A text that is too long is refused before a line of it is read.
@@ -26,7 +26,7 @@ pub fn within_limit(text: &[u8]) -> Result<(), Refusal>
     ensures { elim result [ Ok u ↦ is_long_file text.now ≡ false | Err e ↦ (is_long_file text.now ≡ true) × (e ≡ misfit) ] }
 {
     if text.len() > 1048576 {
-        Err(Refusal { number: 1, line: 0 })
+        Err(Refusal::misfit())
     } else {
         Ok(())
     }
@@ -55,10 +55,7 @@ impl<'a> Line<'a> {
     {
         let bytes = self.bytes;
         if bytes.len() > 256 {
-            return Err(Refusal {
-                number: 4,
-                line: self.number,
-            });
+            return Err(Refusal::unreadable(self.number));
         }
         if let [b'#', ..] = bytes {
             return Ok(None);
@@ -82,12 +79,18 @@ impl<'a> Lines<'a> {
             number: 1,
         }
     }
+}
 
-    pub fn take(&mut self) -> Option<Line<'a>>
-        ensures shorter { OnSome result (length self.new.rest.now < length self.old.rest.now) }
-        ensures lines { MatchOption result (lines_of self.old.rest.now ≡ []) (λ line. lines_of self.old.rest.now ≡ line.bytes.now ∷ lines_of self.new.rest.now) }
-        ensures numbers { IfSome result (λ line. (line.number ≡ self.old.number) × (self.new.number ≡ self.old.number + 1)) }
-    {
+impl<'a> Iterator for Lines<'a> {
+    ghost use Rattle.text.specs.Taking.{TakesLine};
+
+    type Item = Line<'a>;
+
+    ghost next_gives = { TakesLine };
+
+    ghost remaining = { λ s. at_most (length s.rest.now) };
+
+    fn next(&mut self) -> Option<Line<'a>> {
         let rest = self.rest;
         if rest.is_empty() {
             return None;

@@ -1,22 +1,30 @@
 // The names of a board's regions, as parts of its file.
-ghost use Rattle.std.specs.Prelude.{◌≡◌, ℕ, ◌<◌, Bool, true, false, List, [], ◌∷◌, ◌++◌, length, OnOk, slice_index_or};
+ghost use Rattle.std.specs.Prelude.{◌≡◌, ℕ, ◌<◌, Bool, List, [], ◌∷◌, ◌++◌, length, map, OnOk, slice_index_or};
+ghost use Rattle.std.specs.Borrow.{Bor};
+ghost use Rattle.std.specs.HashMap.{get};
+ghost use Rattle.std.specs.Str.{bytes_eq};
 ghost use Rattle.text.specs.Words.{place};
-ghost use Rattle.text.specs.Names.{names_of};
 
-use super::words::same;
 use std::alloc::{AllocError, Global};
+use std::collections::HashMap;
 
 #[derive(Drop)]
 pub struct Names<'a> {
     pub(super) parts: Vec<&'a [u8]>,
+    // Each name's place, so that a word is found without a walk over all names.
+    pub(super) places: HashMap<&'a [u8], usize>,
+    ghost placed: { (word : Bor (List ℕ)) → get (λ x y. bytes_eq x.now y.now) places word ≡ place (map (λ part. part.now) parts.items) word.now },
 }
 
 impl<'a> Names<'a> {
+    ghost use Rattle.text.specs.Names.{names_of};
+
     pub fn new(heap: Global) -> Names<'a>
         ensures { names_of result ≡ [] }
     {
         Names {
             parts: Vec::new(heap),
+            places: HashMap::new(heap),
         }
     }
 
@@ -33,22 +41,22 @@ impl<'a> Names<'a> {
         self.parts[i]
     }
 
-    // The region of this name.
+    // The region of this name; the first, if two have it.
     pub fn find(&self, word: &[u8]) -> Option<usize>
         ensures { result ≡ place (names_of self.now) word.now }
     {
-        for (i, part) in self.parts.iter().enumerate() {
-            if same(part, word) {
-                return Some(i);
-            }
-        }
-        None
+        self.places.get(word).copied()
     }
 
     pub fn push(&mut self, name: &'a [u8]) -> Result<(), AllocError>
         ensures { OnOk result (names_of self.new ≡ names_of self.old ++ name.now ∷ []) }
     {
-        self.parts.push(name)?;
+        self.parts.try_reserve(1)?;
+        let place = self.parts.len();
+        if !self.places.contains_key(name) {
+            self.places.insert(name, place)?;
+        }
+        self.parts.push_reserved(name);
         Ok(())
     }
 }

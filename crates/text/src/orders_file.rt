@@ -1,27 +1,35 @@
 // A file of orders: texts, in blocks by phase.
 ghost use Rattle.std.specs.Prelude.{◌≡◌, ℕ, ◌+◌, ◌<◌, ◌≤◌, Bool, true, false, cond, List, [], ◌∷◌, ◌++◌, length, IfOk, OnOk};
-ghost use Rattle.text.specs.Refusal.{Reads, Advances, Answers};
-ghost use Rattle.text.specs.Lines.{line_read};
+ghost use Rattle.text.specs.declared.orders_file.OrdersLine.{OrdersLine};
+ghost use Rattle.text.specs.Refusal.{Reads, Answers};
 ghost use Rattle.text.specs.Names.{names_of};
 ghost use Rattle.text.specs.Reader.{left};
-ghost use Rattle.text.specs.OrdersFile.{phase_form, plain_form, aimed_form, pair_form, kind_form, text_form, orders_form, orders_step, orders_lines, lines_in, texts, opening, phases, blocks, block_of, blocks_in, orders_file};
+ghost use Rattle.text.specs.OrdersFile.{plain_form, aimed_form, pair_form, command_form, text_form, orders_form, orders_step, texts, opening, phases, blocks, block_of, blocks_in, orders_file};
 
-use super::lines::{Line, Lines, within_limit};
+use super::lines::Line;
 use super::names::Names;
+use super::reader::{Reader, read_whole};
 use super::refusal::{Fault, Refusal};
 use super::words::{Words, word};
 use std::alloc::{AllocError, Global};
 
-// One line as it is read: a phase, or a text of kind 0 to 8 with two regions, 0 where there is none.
+// What a text says behind its power and its region: a kind from 0 to 8, and two regions, 0 where there is none.
+// Numbers and no enums, as they are the words of the call that is made of the file.
+#[derive(Clone, Copy)]
+pub(super) struct Command {
+    kind: u32,
+    one: usize,
+    two: usize,
+}
+
+// One line as it is read.
 #[derive(Clone, Copy)]
 pub(super) enum OrdersLine {
     Phase(u32),
     Text {
         power: u32,
         region: usize,
-        kind: u32,
-        a: usize,
-        b: usize,
+        command: Command,
     },
 }
 
@@ -32,143 +40,108 @@ pub struct Block {
     pub words: Vec<u32>,
 }
 
-// N
-fn phase_line(mut words: Words) -> Result<OrdersLine, Refusal>
-    ensures { Reads (λ x. x) (phase_form (left words.entry)) words.entry.line result }
-{
-    let n = words.phase()?;
-    words.end()?;
-    Ok(OrdersLine::Phase(n))
-}
-
-fn plain(power: u32, region: usize, kind: u32, words: Words) -> Result<OrdersLine, Refusal>
-    ensures { Reads (λ x. x) (plain_form power region kind (left words.entry)) words.entry.line result }
+fn plain(kind: u32, words: Words) -> Result<Command, Refusal>
+    ensures { Reads (λ x. x) (plain_form kind (left words.entry)) words.entry.line result }
 {
     words.end()?;
-    Ok(OrdersLine::Text {
-        power,
-        region,
+    Ok(Command {
         kind,
-        a: 0,
-        b: 0,
+        one: 0,
+        two: 0,
     })
 }
 
 // NAME
-fn aimed(
-    names: &Names,
-    power: u32,
-    region: usize,
-    kind: u32,
-    mut words: Words,
-) -> Result<OrdersLine, Refusal>
-    ensures { Reads (λ x. x) (aimed_form (names_of names.now) power region kind (left words.entry)) words.entry.line result }
+fn aimed(names: &Names, kind: u32, mut words: Words) -> Result<Command, Refusal>
+    ensures { Reads (λ x. x) (aimed_form (names_of names.now) kind (left words.entry)) words.entry.line result }
 {
-    let a = words.name(names)?;
+    let one = words.name(names)?;
     words.end()?;
-    Ok(OrdersLine::Text {
-        power,
-        region,
-        kind,
-        a,
-        b: 0,
-    })
+    Ok(Command { kind, one, two: 0 })
 }
 
 // NAME NAME
-fn pair(
-    names: &Names,
-    power: u32,
-    region: usize,
-    kind: u32,
-    mut words: Words,
-) -> Result<OrdersLine, Refusal>
-    ensures { Reads (λ x. x) (pair_form (names_of names.now) power region kind (left words.entry)) words.entry.line result }
+fn pair(names: &Names, kind: u32, mut words: Words) -> Result<Command, Refusal>
+    ensures { Reads (λ x. x) (pair_form (names_of names.now) kind (left words.entry)) words.entry.line result }
 {
-    let a = words.name(names)?;
-    let b = words.name(names)?;
+    let one = words.name(names)?;
+    let two = words.name(names)?;
     words.end()?;
-    Ok(OrdersLine::Text {
-        power,
-        region,
-        kind,
-        a,
-        b,
-    })
+    Ok(Command { kind, one, two })
 }
 
 // hold | move NAME | water NAME | holds NAME | helps NAME NAME | carries NAME NAME | army | fleet | gone
-fn kind_line(
-    names: &Names,
-    power: u32,
-    region: usize,
-    mut words: Words,
-) -> Result<OrdersLine, Refusal>
-    ensures { Reads (λ x. x) (kind_form (names_of names.now) power region (left words.entry)) words.entry.line result }
+fn command_line(names: &Names, mut words: Words) -> Result<Command, Refusal>
+    ensures { Reads (λ x. x) (command_form (names_of names.now) (left words.entry)) words.entry.line result }
 {
     if words.skip(b"hold") {
-        plain(power, region, 0, words)
+        plain(0, words)
     } else if words.skip(b"move") {
-        aimed(names, power, region, 1, words)
+        aimed(names, 1, words)
     } else if words.skip(b"water") {
-        aimed(names, power, region, 2, words)
+        aimed(names, 2, words)
     } else if words.skip(b"holds") {
-        aimed(names, power, region, 3, words)
+        aimed(names, 3, words)
     } else if words.skip(b"helps") {
-        pair(names, power, region, 4, words)
+        pair(names, 4, words)
     } else if words.skip(b"carries") {
-        pair(names, power, region, 5, words)
+        pair(names, 5, words)
     } else if words.skip(b"army") {
-        plain(power, region, 6, words)
+        plain(6, words)
     } else if words.skip(b"fleet") {
-        plain(power, region, 7, words)
+        plain(7, words)
     } else if words.skip(b"gone") {
-        plain(power, region, 8, words)
+        plain(8, words)
     } else {
         Err(words.unreadable())
     }
 }
 
-// P NAME and a kind
+// P NAME and a command
 fn text_line(names: &Names, mut words: Words) -> Result<OrdersLine, Refusal>
     ensures { Reads (λ x. x) (text_form (names_of names.now) (left words.entry)) words.entry.line result }
 {
     let power = words.power()?;
     let region = words.name(names)?;
-    kind_line(names, power, region, words)
+    let command = command_line(names, words)?;
+    Ok(OrdersLine::Text {
+        power,
+        region,
+        command,
+    })
 }
 
 fn orders_line(names: &Names, mut words: Words) -> Result<OrdersLine, Refusal>
     ensures { Reads (λ x. x) (orders_form (names_of names.now) (left words.entry)) words.entry.line result }
 {
     if words.skip(b"phase") {
-        phase_line(words)
+        Ok(OrdersLine::Phase(words.phase_alone()?))
     } else {
         text_line(names, words)
     }
 }
 
-// One line more.
-fn read(lines: &mut Vec<OrdersLine>, names: &Names, line: Line) -> Result<(), Fault>
-    ensures { Advances (line_read (orders_step (names_of names.now)) lines.old.items line.entry.bytes.now) line.entry.number lines.new.items result }
-{
-    let Some(words) = line.words()? else {
-        return Ok(());
-    };
-    lines.push(orders_line(names, words)?)?;
-    Ok(())
+// The regions' names stand in the board's file.
+#[derive(Drop)]
+struct OrdersReader<'n, 'a> {
+    names: &'n Names<'a>,
+    lines: Vec<OrdersLine>,
 }
 
-fn read_lines(heap: Global, names: &Names, text: &[u8]) -> Result<Vec<OrdersLine>, Fault>
-    ensures { Answers lines_in (orders_lines (names_of names.now) text.now) result }
-{
-    within_limit(text)?;
-    let mut lines = Lines::of(text);
-    let mut orders = Vec::new(heap);
-    while let Some(line) = lines.take() {
-        read(&mut orders, names, line)?;
+impl<'l, 'n, 'a> Reader<'l> for OrdersReader<'n, 'a> {
+    ghost Known = { List OrdersLine };
+
+    ghost known = { λ reader. reader.lines.items };
+
+    ghost step = { λ reader. orders_step (names_of reader.names.now) };
+
+    fn read(&mut self, line: Line<'l>) -> Result<(), Fault> {
+        let Some(words) = line.words()? else {
+            return Ok(());
+        };
+        self.lines.push(orders_line(self.names, words)?)?;
+        Ok(())
     }
-    Ok(orders)
 }
 
 // The texts before the next phase line.
@@ -182,11 +155,9 @@ fn texts(heap: Global, lines: &[OrdersLine]) -> Result<Vec<u32>, AllocError>
             OrdersLine::Text {
                 power,
                 region,
-                kind,
-                a,
-                b,
+                command: Command { kind, one, two },
             } => {
-                words.extend_from_slice(&[power, word(region)?, kind, word(a)?, word(b)?])?;
+                words.extend_from_slice(&[power, word(region)?, kind, word(one)?, word(two)?])?;
             }
         }
     }
@@ -208,6 +179,7 @@ fn push_block(
 }
 
 // Texts before any phase line, as a block.
+#[tactic(auto, unfolding(crate::specs::OrdersFile::opening))]
 fn opening(heap: Global, lines: &[OrdersLine]) -> Result<Vec<Block>, AllocError>
     ensures { IfOk result (λ read. blocks_in read ≡ opening lines.now) }
 {
@@ -234,11 +206,11 @@ fn blocks(heap: Global, lines: &[OrdersLine]) -> Result<Vec<Block>, AllocError>
     Ok(read)
 }
 
-// The regions' names stand in the board's file.
 pub fn read_orders(heap: Global, names: &Names, text: &[u8]) -> Result<Vec<Block>, Fault>
     ensures { Answers blocks_in (orders_file (names_of names.now) text.now) result }
 {
-    let lines = read_lines(heap, names, text)?;
-    let read = blocks(heap, lines.as_slice())?;
+    let lines = Vec::new(heap);
+    let reader = read_whole(OrdersReader { names, lines }, text)?;
+    let read = blocks(heap, reader.lines.as_slice())?;
     Ok(read)
 }

@@ -2,7 +2,7 @@
 ghost use Rattle.std.specs.Prelude.{◌≡◌, ℕ, ◌+◌, ◌^◌, ◌<◌, ◌≤◌, Bool, true, false, List, [], ◌∷◌, length, IfSome, IfOk, if◌then◌else◌};
 ghost use Rattle.std.specs.Str.{bytes_eq};
 ghost use Rattle.text.specs.Refusal.{unreadable, Reads, Passes};
-ghost use Rattle.text.specs.Words.{one_of, power, phase, kind, arm, new_name, place, is_name, is_letter, front, behind, begins, is_end};
+ghost use Rattle.text.specs.Words.{one_of, power, phase_alone, kind, arm, new_name, place, is_name, is_letter, front, behind, begins, is_end};
 ghost use Rattle.text.specs.Names.{names_of};
 ghost use Rattle.text.specs.Reader.{left};
 ghost use Rattle.values.specs.Fold.{all};
@@ -14,13 +14,8 @@ use std::alloc::AllocError;
 
 const SPACE: u8 = 32;
 
-pub(super) fn same(word: &[u8], text: &[u8]) -> bool
-    ensures { result ≡ bytes_eq word.now text.now }
-{
-    word == text
-}
-
 // A word of one byte, as its place in the row from `first` to `last`.
+#[tactic(auto, unfolding(crate::specs::Words::one_of))]
 fn one_of(first: u8, last: u8, word: &[u8]) -> Option<u32>
     ensures value { result ≡ one_of first last word.now }
     ensures small { IfSome result (λ x. x < 256) }
@@ -35,47 +30,39 @@ fn one_of(first: u8, last: u8, word: &[u8]) -> Option<u32>
     }
 }
 
+#[tactic(auto, unfolding(crate::specs::Words::kind))]
 fn kind_of(word: &[u8]) -> Option<u32>
     ensures { result ≡ kind word.now }
 {
-    if same(word, b"land") {
+    if word == b"land".as_slice() {
         Some(0)
-    } else if same(word, b"coast") {
+    } else if word == b"coast".as_slice() {
         Some(1)
-    } else if same(word, b"sea") {
+    } else if word == b"sea".as_slice() {
         Some(2)
     } else {
         None
     }
 }
 
+#[tactic(auto, unfolding(crate::specs::Words::arm))]
 fn arm_of(word: &[u8]) -> Option<u32>
     ensures { result ≡ arm word.now }
 {
-    if same(word, b"army") {
+    if word == b"army".as_slice() {
         Some(0)
-    } else if same(word, b"fleet") {
+    } else if word == b"fleet".as_slice() {
         Some(1)
     } else {
         None
     }
 }
 
-fn is_letter(b: u8) -> bool
-    ensures { result ≡ is_letter b }
-{
-    b'a' <= b && b <= b'z'
-}
-
+#[tactic(auto, using(values::proofs::Chains::all_is))]
 fn letters(word: &[u8]) -> bool
     ensures { result ≡ all is_letter word.now }
 {
-    for b in word {
-        if !is_letter(*b) {
-            return false;
-        }
-    }
-    true
+    word.iter().all(|b| b.is_ascii_lowercase())
 }
 
 fn is_name(word: &[u8]) -> bool
@@ -126,10 +113,7 @@ impl<'a> Words<'a> {
     pub(super) fn unreadable(&self) -> Refusal
         ensures { result ≡ unreadable self.now.line }
     {
-        Refusal {
-            number: 4,
-            line: self.line,
-        }
+        Refusal::unreadable(self.line)
     }
 
     pub(super) fn power(&mut self) -> Result<u32, Refusal>
@@ -141,12 +125,13 @@ impl<'a> Words<'a> {
         one_of(b'a', b'g', self.take()).ok_or(self.unreadable())
     }
 
-    pub(super) fn phase(&mut self) -> Result<u32, Refusal>
-        ensures value { Reads (λ x. x) (phase (front (left self.old))) self.old.line result }
-        ensures rest { left self.new ≡ behind (left self.old) }
-        ensures line { self.new.line ≡ self.old.line }
+    // A phase, and no word behind it.
+    pub(super) fn phase_alone(mut self) -> Result<u32, Refusal>
+        ensures { Reads (λ x. x) (phase_alone (left self.entry)) self.entry.line result }
     {
-        one_of(b'0', b'4', self.take()).ok_or(self.unreadable())
+        let n = one_of(b'0', b'4', self.take()).ok_or(self.unreadable())?;
+        self.end()?;
+        Ok(n)
     }
 
     pub(super) fn kind(&mut self) -> Result<u32, Refusal>
@@ -175,6 +160,7 @@ impl<'a> Words<'a> {
     }
 
     // A name that no region has yet.
+    #[tactic(auto, unfolding(crate::specs::Words::new_name))]
     pub(super) fn new_name(&mut self, names: &Names) -> Result<&'a [u8], Refusal>
         ensures value { Reads (λ x. x.now) (new_name (names_of names.now) (front (left self.old))) self.old.line result }
         ensures rest { left self.new ≡ behind (left self.old) }
@@ -195,7 +181,7 @@ impl<'a> Words<'a> {
         ensures line { self.new.line ≡ self.old.line }
     {
         let mut ahead = *self;
-        if !same(ahead.take(), text) {
+        if ahead.take() != text {
             return false;
         }
         *self = ahead;

@@ -1,11 +1,11 @@
-use Rattle.std.proofs.Common.{◌≡◌, ℕ, suc, ◌+◌, ◌-◌, eqb, List, [], ◌∷◌, ◌++◌, drop, vec_items, sym, ap, ◌∙◌, arith}
-use Rattle.std.proofs.lemmas.List.{map_push}
-use Rattle.text.specs.OrdersFile.{texts_of}
-use Rattle.session.specs.Session.{block_phase, turns_due}
+use Rattle.std.proofs.Common.{◌≡◌, ℕ, suc, ◌+◌, ◌-◌, List, [], ◌∷◌, ◌++◌, drop, vec_items, sym, ap, ◌∙◌, arith, Bor}
+use Rattle.std.proofs.lemmas.List.{map_push, take_rest}
+use Rattle.text.specs.declared.orders_file.Block.{Block}
+use Rattle.session.specs.Session.{turns_due}
 use Rattle.session.specs.Tables.{blocks_of, turns_in}
-use Rattle.session.proofs.Due.{on_taken, on_waiting, on_empty, turns_end, read_twice}
+use Rattle.session.proofs.Due.{on_taken, on_waiting, on_empty, turns_end}
 use Rattle.session.proofs.plan.turns_due.Goals as goal
-use Rattle.session.proofs.plan.turns_due.Goals.{After-next-phase, then-taken-blocks+then-is_due+in_ok-push, else-taken-blocks+in_ok-push-2, else-taken-blocks-via-then-taken-blocks+else-is_due, else-taken-blocks-via-else-taken-blocks}
+use Rattle.session.proofs.plan.turns_due.Goals.{After-next-phase, in-len1-up+then-is_due+in_ok-push, else-waiting-lt1+in_ok-push-2, else-waiting-lt1-via-then-waiting-lt1, else-waiting-lt1-via-in-len1-up+else-is_due}
 
 abbrev all : After-next-phase → List (List ℕ)
 all c = turns_due c.args.first c.args.count c.args.first (blocks_of c.args.blocks.now)
@@ -13,40 +13,33 @@ all c = turns_due c.args.first c.args.count c.args.first (blocks_of c.args.block
 abbrev left : After-next-phase → ℕ
 left c = c.args.count - (c.loop.counter + 1)
 
-so_far : (c : After-next-phase) → turns_in (vec_items c.loop.turns) ++ turns_due c.args.first (suc (left c)) c.loop.phase (blocks_of (drop c.loop.taken c.args.blocks.now)) ≡ all c
+so_far : (c : After-next-phase) → turns_in (vec_items c.loop.turns) ++ turns_due c.args.first (suc (left c)) c.loop.phase (blocks_of c.loop.waiting.now) ≡ all c
 so_far c =
     let one_more : c.args.count - c.loop.counter ≡ suc (left c) = omega (arith, c.loop-test.true) in
-    sym (ap (λ i. turns_in (vec_items c.loop.turns) ++ turns_due c.args.first i c.loop.phase (blocks_of (drop c.loop.taken c.args.blocks.now))) one_more) ∙ c.loop.invariant
+    sym (ap (λ i. turns_in (vec_items c.loop.turns) ++ turns_due c.args.first i c.loop.phase (blocks_of c.loop.waiting.now)) one_more) ∙ c.loop.invariant
 
 pub loop-preserved : goal.loop-preserved
 loop-preserved c =
     let first = c.args.first in
     let k = c.loop.phase in
-    let blocks = c.args.blocks.now in
-    let i = c.loop.taken in
+    let waiting = c.loop.waiting.now in
     let n = left c in
     let was = turns_in (vec_items c.loop.turns) in
-    elim c.if-taken-blocks.branch [
-      | then-taken-blocks+then-is_due+in_ok-push w ↦
-          let seen = w.index-blocks-taken.result in
-          let b = w.index-blocks-taken-then-is_due.result in
-          let within = w.if-taken-blocks.true in
-          let same : seen ≡ b = read_twice blocks i seen b within w.index-blocks-taken.is w.index-blocks-taken-then-is_due.is in
-          let due : eqb k (block_phase first (texts_of b)) ≡ _ = sym (ap (λ x. eqb k (block_phase first (texts_of x))) same) ∙ sym w.is_due.ensures ∙ w.if-is_due.true in
-          let words : w.as_slice.result.now ≡ vec_items b.words = w.as_slice.ensures.value ∙ sym (ap (λ x. vec_items x.words) w.index-blocks-taken-then-is_due.is) in
-          let here = ap turns_in w.in_ok-push.ensures.items ∙ map_push (λ t. t.now) (vec_items c.loop.turns) w.as_slice.result ∙ ap (λ t. was ++ t ∷ []) words in
-          (λ j. turns_in (vec_items (w.turns-is j)) ++ turns_due first n (c.next-phase.ensures j) (blocks_of (drop (w.taken-is j) blocks))) ∙
-          on_taken first k blocks i n was (turns_in (vec_items w.push.new.self)) (all c) (so_far c) b w.index-blocks-taken-then-is_due.is within due here
-      | else-taken-blocks+in_ok-push-2 w ↦
+    elim c.if-waiting-lt1.branch [
+      | in-len1-up+then-is_due+in_ok-push w ↦
+          let here = ap turns_in w.in_ok-push.ensures.items ∙ map_push (λ t. t.now) (vec_items c.loop.turns) w.as_slice.result ∙ ap (λ t. was ++ t ∷ []) w.as_slice.ensures.value in
+          let others = ap (λ (blocks : Bor (List Block)). blocks_of blocks.now) w.waiting-is ∙ ap blocks_of (take_rest waiting 1) in
+          (λ j. turns_in (vec_items (w.turns-is j)) ++ turns_due first n (c.next-phase.ensures j) (others j)) ∙
+          on_taken first k waiting 0 n was (turns_in (vec_items w.push.new.self)) (all c) (so_far c) w.block-item.result w.block-item.is (omega arith) (sym w.is_due.ensures ∙ w.if-is_due.true) here
+      | else-waiting-lt1+in_ok-push-2 w ↦
           let here = ap turns_in w.in_ok-push-2.ensures.items ∙ map_push (λ t. t.now) (vec_items c.loop.turns) _ in
-          (λ j. turns_in (vec_items (w.turns-is j)) ++ turns_due first n (c.next-phase.ensures j) (blocks_of (drop (w.taken-is j) blocks))) ∙
-          elim w.else-taken-blocks.branch [
-            | else-taken-blocks-via-then-taken-blocks+else-is_due w' ↦
-                on_waiting first k blocks i n was (turns_in (vec_items w.push-else-taken-blocks.new.self)) (all c) (so_far c) w'.index-blocks-taken.result w'.index-blocks-taken.is w'.if-taken-blocks.true (sym w'.is_due.ensures ∙ w'.if-is_due.false) here
-            | else-taken-blocks-via-else-taken-blocks w' ↦
-                on_empty first k blocks i n was (turns_in (vec_items w.push-else-taken-blocks.new.self)) (all c) (so_far c) w'.if-taken-blocks.false here
+          (λ j. turns_in (vec_items (w.turns-is j)) ++ turns_due first n (c.next-phase.ensures j) (blocks_of (w.waiting-is j).now)) ∙
+          elim w.else-waiting-lt1.branch [
+            | else-waiting-lt1-via-then-waiting-lt1 w' ↦ on_empty first k waiting 0 n was (turns_in (vec_items w.push-else-waiting-lt1.new.self)) (all c) (so_far c) (grind arith) here
+            | else-waiting-lt1-via-in-len1-up+else-is_due w' ↦
+                on_waiting first k waiting 0 n was (turns_in (vec_items w.push-else-waiting-lt1.new.self)) (all c) (so_far c) w'.block-item.result w'.block-item.is (omega arith) (sym w'.is_due.ensures ∙ w'.if-is_due.false) here
           ]
     ]
 
 pub returns : goal.returns
-returns c = turns_end c.args.first c.loop.phase (c.args.count - c.loop.counter) (blocks_of (drop c.loop.taken c.args.blocks.now)) _ _ (omega arith) c.loop.invariant
+returns c = turns_end c.args.first c.loop.phase (c.args.count - c.loop.counter) (blocks_of c.loop.waiting.now) _ _ (omega arith) c.loop.invariant

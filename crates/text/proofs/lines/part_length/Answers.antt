@@ -1,16 +1,14 @@
-use Rattle.std.proofs.Common.{rules}
-use Rattle.text.specs.Lines.{part_length}
-use Rattle.text.proofs.Steps.{steps}
+use Rattle.std.proofs.Common.{◌≡◌, length, sym, ap, ◌∙◌, rules}
+use Rattle.std.specs.Prelude.{◌==◌}
+use Rattle.std.specs.Option.{unwrap_or}
+use Rattle.std.proofs.lemmas.Iterator.{YieldsList-from_slice}
+use Rattle.std.proofs.lemmas.Iterator.Search.{position_from_yields_List}
+use Rattle.text.proofs.Chains.{part_length_is}
 use Rattle.text.proofs.lines.part_length.Goals as goal
 
-pub returns-then-b-sep : goal.returns-then-b-sep
-unfolding part_length
-returns-then-b-sep c = search (rules, steps)
-
-pub loop-i-preserved : goal.loop-i-preserved
-unfolding part_length
-loop-i-preserved c = search (rules, steps)
-
-pub returns : goal.returns
-unfolding part_length
-returns c = search (rules, steps)
+pub returns-clause-value : goal.returns-clause-value
+returns-clause-value c =
+    let bytes = c.args.bytes.now in
+    let found = position_from_yields_List (λ b. b == c.args.sep) _ _ _ c.position.ensures.ran (YieldsList-from_slice bytes (cc)) (λ x b q k. search rules) in
+    let here : c.unwrap_or.result ≡ unwrap_or c.position.result (length bytes) = search rules in
+    here ∙ ap (λ o. unwrap_or o (length bytes)) found ∙ sym (part_length_is c.args.sep bytes)
