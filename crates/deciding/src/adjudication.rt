@@ -6,8 +6,8 @@ ghost use Rattle.deciding.specs.Adjudicated.{Adjudicated};
 
 use super::report::{Report, reports};
 use super::ring::close_into;
-use super::settle::settle;
-use assignment::{Lookup, Resolution};
+use super::slate::Slate;
+use assignment::{Orders, Resolution};
 use board::Atlas;
 use paths::paths_into;
 use std::alloc::{AllocError, Global};
@@ -19,7 +19,7 @@ pub struct Adjudication {
     pub settled: Vec<Resolution>,
     pub outcome: Vec<Resolution>,
     pub reports: Vec<Report>,
-    // For each unit of the outcome whether it is dislodged, and whether it had a path.
+    // For each unit of the outcome whether it is dislodged, and whether it had a path: apart, since a round takes its paths as a slice.
     pub dislodged: Vec<Tri>,
     pub paths: Vec<Tri>,
 }
@@ -33,29 +33,19 @@ pub fn adjudicate(
     requires inside { Inside fresh.items }
     ensures { IfOk result (Adjudicated (board_of atlas.now) fresh.items) }
 {
-    let lookup = Lookup::new(heap, fresh.as_slice())?;
-    let mut settled = fresh;
-    settled.reserve(128 - settled.len())?;
-    let mut outcome = Vec::with_capacity(heap, 128)?;
-    let mut dislodged = Vec::with_capacity(heap, 128)?;
-    let mut paths = Vec::with_capacity(heap, 128)?;
-    settle(
-        atlas,
-        &lookup,
-        &mut settled,
-        &mut outcome,
-        &mut dislodged,
-        &mut paths,
-    );
+    let mut slate = Slate::new(heap, fresh)?;
+    slate.settle(atlas);
+    let Slate {
+        lookup,
+        orders: settled,
+        spare: mut outcome,
+        mut dislodged,
+        mut paths,
+    } = slate;
     close_into(settled.as_slice(), &mut outcome);
-    paths_into(
-        atlas,
-        &lookup,
-        outcome.as_slice(),
-        &mut dislodged,
-        &mut paths,
-    );
-    let reports = reports(heap, &lookup, settled.as_slice(), outcome.as_slice())?;
+    let orders = Orders::new(&lookup, outcome.as_slice());
+    paths_into(atlas, orders, &mut dislodged, &mut paths);
+    let reports = reports(heap, orders, settled.as_slice())?;
     Ok(Adjudication {
         settled,
         outcome,

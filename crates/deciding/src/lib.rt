@@ -7,6 +7,7 @@ pub mod report;
 pub mod ring;
 pub mod rounds;
 pub mod settle;
+pub mod slate;
 
 pub use adjudication::{Adjudication, adjudicate};
 pub use report::Report;

@@ -1,10 +1,9 @@
 // What is told of a unit after a phase of moves.
 ghost use Rattle.std.specs.Prelude.{◌≡◌, map, IfOk};
-ghost use Rattle.assignment.specs.Lookup.{Indexed};
 ghost use Rattle.deciding.specs.Outcome.{report_one};
 
 use super::ring::{close_one, in_ring};
-use assignment::{Lookup, Resolution, dislodged};
+use assignment::{Orders, Resolution};
 use board::{Order, Unit};
 use std::alloc::{AllocError, Global};
 
@@ -24,16 +23,15 @@ pub struct Report {
 }
 
 // Of `x`, as it was settled.
-pub fn report_one(lookup: &Lookup, outcome: &[Resolution], x: Resolution) -> Report
-    requires indexed { Indexed lookup.now outcome.now }
-    ensures { result ≡ report_one outcome.now x }
+pub fn report_one(outcome: Orders, x: Resolution) -> Report
+    ensures { result ≡ report_one outcome.entry.list.now x }
 {
     let closed = close_one(x);
     Report {
         unit: x.unit,
         order: x.order,
         success: closed.value.is_yes(),
-        dislodged: dislodged(lookup, closed, outcome).is_yes(),
+        dislodged: outcome.dislodged(closed).is_yes(),
         ring: in_ring(x),
         stranded: x.stranded,
     }
@@ -41,12 +39,13 @@ pub fn report_one(lookup: &Lookup, outcome: &[Resolution], x: Resolution) -> Rep
 
 pub fn reports(
     heap: Global,
-    lookup: &Lookup,
+    outcome: Orders,
     settled: &[Resolution],
-    outcome: &[Resolution],
 ) -> Result<Vec<Report>, AllocError>
-    requires indexed { Indexed lookup.now outcome.now }
-    ensures { IfOk result (λ v. v.items ≡ map (report_one outcome.now) settled.now) }
+    ensures { IfOk result (λ v. v.items ≡ map (report_one outcome.entry.list.now) settled.now) }
 {
-    settled.iter().map(|x| report_one(lookup, outcome, *x)).collect(heap)
+    settled
+        .iter()
+        .map(|x| report_one(outcome, *x))
+        .collect(heap)
 }

@@ -1,79 +1,95 @@
 // Rounds: all orders decided anew, until nothing changes.
-ghost use Rattle.std.specs.Prelude.{◌≡◌, ◌<◌, ◌≤◌, false, length, vec_len, vec_capacity};
+ghost use Rattle.std.specs.Prelude.{◌≡◌, ◌≤◌, false, length, IfOk, vec_len, vec_capacity};
 ghost use Rattle.board.specs.Atlas.{board_of};
 ghost use Rattle.assignment.specs.Places.{Inside};
-ghost use Rattle.assignment.specs.Lookup.{Indexed};
 ghost use Rattle.paths.specs.Paths.{paths_of};
 ghost use Rattle.deciding.specs.Rounds.{round, decided};
 
-use assignment::{Lookup, Resolution};
+use super::slate::Slate;
+use assignment::{Lookup, Orders, Resolution};
 use board::Atlas;
 use paths::paths_into;
+use std::alloc::{AllocError, Global};
 use std::mem::swap;
-use strength::decides;
+use strength::Round;
 use values::Tri;
 
+// What a round knows of `orders`, with a table of their paths.
+pub(super) fn known<'a>(atlas: &'a Atlas, orders: Orders<'a>, paths: &'a [Tri]) -> Round<'a>
+    requires paths { paths.now ≡ paths_of (board_of atlas.now) orders.list.now }
+    ensures atlas { result.atlas.now ≡ atlas.now }
+    ensures orders { result.orders.list.now ≡ orders.entry.list.now }
+{
+    Round {
+        atlas,
+        orders,
+        paths,
+    }
+}
+
 // One round into `out`; whether something changed.
-pub fn round_into(
-    atlas: &Atlas,
-    lookup: &Lookup,
-    paths: &[Tri],
-    xs: &[Resolution],
-    out: &mut Vec<Resolution>,
-) -> bool
-    requires indexed { Indexed lookup.now xs.now }
-    requires paths { paths.now ≡ paths_of (board_of atlas.now) xs.now }
+pub fn round_into(known: Round, out: &mut Vec<Resolution>) -> bool
     requires room { 128 ≤ vec_capacity out.old }
-    ensures items { out.new.items ≡ round (board_of atlas.now) xs.now }
-    ensures still { result ≡ false → out.new.items ≡ xs.now }
-    ensures len { vec_len out.new ≡ length xs.now }
+    ensures items { out.new.items ≡ round (board_of known.entry.atlas.now) known.entry.orders.list.now }
+    ensures still { result ≡ false → out.new.items ≡ known.entry.orders.list.now }
+    ensures len { vec_len out.new ≡ length known.entry.orders.list.now }
     ensures cap { vec_capacity out.new ≡ vec_capacity out.old }
 {
     let mut changed = false;
     out.clear();
-    for i in 0..xs.len() {
-        let x = xs[i];
-        let value = decides(atlas, lookup, paths, i, xs);
+    for (i, x) in known.orders.list.iter().enumerate() {
+        let value = known.decides(i);
         if value != x.value {
             changed = true;
         }
-        out.push_reserved(Resolution {
-            unit: x.unit,
-            order: x.order,
-            value,
-            stranded: x.stranded,
-        });
+        out.push_reserved(Resolution { value, ..*x });
     }
     changed
 }
 
-// As many rounds as units and one more, or until one changes nothing.
-pub fn decide_all(
-    atlas: &Atlas,
-    lookup: &Lookup,
-    xs: &mut Vec<Resolution>,
-    spare: &mut Vec<Resolution>,
-    dislodged: &mut Vec<Tri>,
-    paths: &mut Vec<Tri>,
-)
-    requires indexed { Indexed lookup.now xs.old.items }
-    requires inside { Inside xs.old.items }
-    requires room { 128 ≤ vec_capacity xs.old }
-    requires spare { 128 ≤ vec_capacity spare.old }
-    requires dislodged { 128 ≤ vec_capacity dislodged.old }
-    requires paths { 128 ≤ vec_capacity paths.old }
-    ensures items { xs.new.items ≡ decided (board_of atlas.now) xs.old.items }
-    ensures indexed { Indexed lookup.now xs.new.items }
-    ensures inside { Inside xs.new.items }
-    ensures room { (128 ≤ vec_capacity xs.new) × (128 ≤ vec_capacity spare.new) }
-    ensures tables { (128 ≤ vec_capacity dislodged.new) × (128 ≤ vec_capacity paths.new) }
-{
-    for k in 0..xs.len() + 1 {
-        paths_into(atlas, lookup, xs.as_slice(), dislodged, paths);
-        let changed = round_into(atlas, lookup, paths.as_slice(), xs.as_slice(), spare);
-        swap(xs, spare);
-        if !changed {
-            break;
+impl Slate {
+    pub(super) fn new(heap: Global, fresh: Vec<Resolution>) -> Result<Slate, AllocError>
+        requires few { vec_len fresh ≤ 128 }
+        requires inside { Inside fresh.items }
+        ensures { IfOk result (λ s. s.orders.items ≡ fresh.items) }
+    {
+        let lookup = Lookup::new(heap, fresh.as_slice())?;
+        let mut orders = fresh;
+        orders.reserve(128 - orders.len())?;
+        let spare = Vec::with_capacity(heap, 128)?;
+        let dislodged = Vec::with_capacity(heap, 128)?;
+        let paths = Vec::with_capacity(heap, 128)?;
+        Ok(Slate {
+            lookup,
+            orders,
+            spare,
+            dislodged,
+            paths,
+        })
+    }
+
+    // One round; whether something changed.
+    fn round(&mut self, atlas: &Atlas) -> bool
+        ensures items { self.new.orders.items ≡ round (board_of atlas.now) self.old.orders.items }
+        ensures still { result ≡ false → self.new.orders.items ≡ self.old.orders.items }
+        ensures len { vec_len self.new.orders ≡ vec_len self.old.orders }
+    {
+        let orders = Orders::new(&self.lookup, self.orders.as_slice());
+        paths_into(atlas, orders, &mut self.dislodged, &mut self.paths);
+        let known = known(atlas, orders, self.paths.as_slice());
+        let changed = round_into(known, &mut self.spare);
+        swap(&mut self.orders, &mut self.spare);
+        changed
+    }
+
+    // As many rounds as units and one more, or until one changes nothing.
+    pub fn decide_all(&mut self, atlas: &Atlas)
+        ensures { self.new.orders.items ≡ decided (board_of atlas.now) self.old.orders.items }
+    {
+        for _ in 0..=self.orders.len() {
+            if !self.round(atlas) {
+                break;
+            }
         }
     }
 }

@@ -35,6 +35,11 @@ module _ {A B : Type 0} (make : A → B) where
   any_made test [] = refl
   any_made test (x ∷ xs) = ap (λ b. test (x, make x) || b) (any_made test xs)
 
+  -- what is made of both is made of each element
+  pub map_made : {C : Type 0} (change : A × B → C) (xs : List A) → map change (zip xs (map make xs)) ≡ map (λ x. change (x, make x)) xs
+  map_made change [] = refl
+  map_made change (x ∷ xs) = ap (λ l. change (x, make x) ∷ l) (map_made change xs)
+
   -- both slices from their first elements on
   module _ (xs : List A) (ys : List B) (table : ys ≡ map make xs) (s : Zip (Iter A) (Iter B)) (first : iter_rest (zip_first s) ≡ xs) (second : iter_rest (zip_second s) ≡ ys) where
     pub road : YieldsList {B = A × B} (zips fronts fronts) (λ p. (p.0.now, p.1.now)) s (zip xs (map make xs))

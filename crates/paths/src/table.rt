@@ -20,22 +20,24 @@ pub fn dislodged_into(orders: Orders, out: &mut Vec<Tri>)
     refill(out, orders.list.iter().map(|x| orders.dislodged(*x)));
 }
 
-fn path(water: Water, x: &Resolution) -> Tri
-    requires from { x.now.unit.region < 128 }
-    ensures { result ≡ path (board_of water.entry.atlas.now) x.now water.entry.xs.now }
-{
-    let from = x.unit.region;
-    let to = x.order.aim();
-    if !x.order.is_convoyed() {
-        Tri::Yes
-    } else if x.stranded {
-        Tri::No
-    } else if water.chain(from, to, Surely) {
-        Tri::Yes
-    } else if water.chain(from, to, Perhaps) {
-        Tri::Open
-    } else {
-        Tri::No
+impl<'a> Water<'a> {
+    fn path(self, x: &Resolution) -> Tri
+        requires from { x.now.unit.region < 128 }
+        ensures { result ≡ path (board_of self.entry.atlas.now) x.now self.entry.xs.now }
+    {
+        let from = x.unit.region;
+        let to = x.order.aim();
+        if !x.order.is_convoyed() {
+            Tri::Yes
+        } else if x.stranded {
+            Tri::No
+        } else if self.chain(from, to, Surely) {
+            Tri::Yes
+        } else if self.chain(from, to, Perhaps) {
+            Tri::Open
+        } else {
+            Tri::No
+        }
     }
 }
 
@@ -56,5 +58,5 @@ pub fn paths_into(atlas: &Atlas, orders: Orders, dislodged: &mut Vec<Tri>, out: 
         xs: orders.list,
         dislodged: dislodged.as_slice(),
     };
-    refill(out, water.xs.iter().map(|x| path(water, x)));
+    refill(out, water.xs.iter().map(|x| water.path(x)));
 }

@@ -1,23 +1,18 @@
-use Rattle.std.proofs.Common.{vec_items, sym, ap, ◌∙◌, subst, rules}
+use Rattle.std.proofs.Common.{◌≡◌, vec_items, sym, ap, ◌∙◌, subst}
 use Rattle.assignment.specs.Places.{Inside}
 use Rattle.assignment.specs.Lookup.{Indexed}
 use Rattle.deciding.specs.Outcome.{close}
 use Rattle.deciding.proofs.Again.{indexed_close, inside_close}
 use Rattle.deciding.proofs.adjudication.adjudicate.Goals as goal
 
-pub paths_into-requires : goal.paths_into-requires
-paths_into-requires c =
-    let ys = vec_items c.settle.new.xs in
-    let here = c.as_slice-3.ensures.value ∙ c.close_into.ensures.items ∙ ap close c.as_slice-2.ensures.value in
-    record {
-      indexed = subst (Indexed c.in_ok-lookup.lookup) (sym here) (indexed_close c.in_ok-lookup.lookup ys c.settle.ensures.indexed);
-      inside = subst Inside (sym here) (inside_close ys c.settle.ensures.inside);
-      scratch = search rules;
-      room = search rules;
-    }
+pub new-orders-requires : goal.new-orders-requires
+new-orders-requires c =
+    let s = c.settle.new.self in
+    let here = c.as_slice-2.ensures.value ∙ c.close_into.ensures.items ∙ ap close c.as_slice.ensures.value in
+    record { indexed = subst (Indexed s.lookup) (sym here) (indexed_close s.lookup (vec_items s.orders) s.indexed) }
 
-pub reports-requires : goal.reports-requires
-reports-requires c =
-    let ys = vec_items c.settle.new.xs in
-    let here = c.as_slice-5.ensures.value ∙ c.close_into.ensures.items ∙ ap close c.as_slice-2.ensures.value in
-    record { indexed = subst (Indexed c.in_ok-lookup.lookup) (sym here) (indexed_close c.in_ok-lookup.lookup ys c.settle.ensures.indexed) }
+pub paths_into-requires-clause-inside : goal.paths_into-requires-clause-inside
+paths_into-requires-clause-inside c =
+    let s = c.settle.new.self in
+    let here = c.new-orders.ensures ∙ c.as_slice-2.ensures.value ∙ c.close_into.ensures.items ∙ ap close c.as_slice.ensures.value in
+    subst Inside (sym here) (inside_close (vec_items s.orders) s.inside)

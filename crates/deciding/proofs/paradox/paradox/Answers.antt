@@ -1,21 +1,16 @@
-use Rattle.std.proofs.Common.{sym, ◌∙◌, arith}
+use Rattle.std.proofs.Common.{◌&&◌, ◌||◌, ◌∙◌, rules}
+use Rattle.std.proofs.lemmas.Iterator.Search.{any_from_yields_List}
+use Rattle.values.specs.Tri.{is_open}
+use Rattle.board.specs.Order.{is_move, is_support}
 use Rattle.board.specs.Atlas.{board_of}
-use Rattle.assignment.specs.Assignment.{nobody}
-use Rattle.deciding.specs.Outcome.{unsettled}
-use Rattle.deciding.proofs.Walks.{any_found, any_on, any-end}
+use Rattle.paths.specs.Paths.{path}
+use Rattle.paths.proofs.InStep.{road, any_made}
 use Rattle.deciding.proofs.paradox.paradox.Goals as goal
-
-pub returns-then-unsettled : goal.returns-then-unsettled
-returns-then-unsettled c =
-    let xs = c.args.xs.now in
-    any_found (unsettled (board_of c.args.atlas.now) xs) nobody xs c.loop-i.i (omega arith) (sym c.unsettled.ensures ∙ c.if-unsettled.true) c.loop-i.invariant
-
-pub loop-i-preserved : goal.loop-i-preserved
-loop-i-preserved c =
-    let xs = c.args.xs.now in
-    any_on (unsettled (board_of c.args.atlas.now) xs) nobody xs c.loop-i.i (omega arith) (sym c.unsettled.ensures ∙ c.if-unsettled.false) c.loop-i.invariant
 
 pub returns : goal.returns
 returns c =
-    let xs = c.args.xs.now in
-    any-end (unsettled (board_of c.args.atlas.now) xs) nobody xs c.loop-i.i (omega arith) c.loop-i.invariant
+    let xs = c.args.known.orders.list.now in
+    let make = λ (x : _). path (board_of c.args.known.atlas.now) x xs in
+    let test = λ (p : _ × _). (is_support p.0.order && is_open p.0.value) || (is_move p.0.order && is_open p.1) in
+    any_from_yields_List test c.any.new.self _ _ c.any.ensures.ran (road make xs c.args.known.paths.now c.args.known.known c.zip-units.result (cc) (cc)) (λ p b q k. search rules) ∙
+    any_made make test xs

@@ -1,25 +1,20 @@
-use Rattle.std.proofs.Common.{◌+◌, ◌++◌, map, drop, vec_items, ap, ◌∙◌, arith, rules}
+use Rattle.std.proofs.Common.{◌&&◌, ◌||◌, ◌∙◌, refl, rules}
+use Rattle.std.proofs.lemmas.Iterator.{YieldsList-from_map}
+use Rattle.std.proofs.lemmas.Iterator.Consumers.{YieldsList-at}
+use Rattle.values.specs.declared.tri.Tri.TheVariants.{Open}
+use Rattle.values.specs.Tri.{is_open}
+use Rattle.board.specs.Order.{is_move}
 use Rattle.board.specs.Atlas.{board_of}
-use Rattle.assignment.specs.Assignment.{nobody}
-use Rattle.deciding.specs.Outcome.{strand_one}
-use Rattle.deciding.proofs.Walks.{map_on, map-end}
+use Rattle.assignment.specs.declared.resolution.Resolution.{Resolution}
+use Rattle.paths.specs.Paths.{path}
+use Rattle.paths.proofs.InStep.{road, map_made}
+use Rattle.paths.proofs.Refilled.{refilled}
 use Rattle.deciding.proofs.paradox.strand_into.Goals as goal
 
-pub loop-i-preserved : goal.loop-i-preserved
-loop-i-preserved c =
-    let xs = c.args.xs.now in
-    let i = c.loop-i.i in
-    let f = strand_one (board_of c.args.atlas.now) xs in (
-      ap (λ l. l ++ map f (drop (i + 1) xs)) c.push_reserved.ensures.items ∙ map_on f nobody (vec_items c.loop-i.out) xs i c.strand_one.result (omega arith) c.strand_one.ensures c.loop-i.invariant.0,
-      search rules,
-      search rules,
-    )
-
-pub returns : goal.returns
-returns c =
-    let xs = c.args.xs.now in
-    record {
-      items = map-end (strand_one (board_of c.args.atlas.now) xs) nobody (vec_items c.loop-i.out) xs c.loop-i.i (omega arith) c.loop-i.invariant.0;
-      len = search rules;
-      cap = search rules;
-    }
+pub returns-clause-items : goal.returns-clause-items
+returns-clause-items c =
+    let xs = c.args.known.orders.list.now in
+    let make = λ (x : _). path (board_of c.args.known.atlas.now) x xs in
+    let change : Resolution × _ → Resolution = λ p. record { unit = p.0.unit; order = p.0.order; value = Open; stranded = p.0.stranded || (is_move p.0.order && is_open p.1) } in
+    refilled c.refill.ensures.items (YieldsList-from_map _ change (YieldsList-at c.map.ensures.source (road make xs c.args.known.paths.now c.args.known.known c.zip-units.result (cc) (cc))) refl (λ p r q k. search rules)) ∙
+    map_made make change xs
