@@ -10,12 +10,12 @@ use values::Tri;
 #[derive(Drop)]
 pub struct Slate {
     // The tables of these orders.
-    pub lookup: Lookup,
+    pub(super) lookup: Lookup,
     pub orders: Vec<Resolution>,
     // For what the orders become next.
-    pub spare: Vec<Resolution>,
-    pub dislodged: Vec<Tri>,
-    pub paths: Vec<Tri>,
+    pub(super) spare: Vec<Resolution>,
+    pub(super) dislodged: Vec<Tri>,
+    pub(super) paths: Vec<Tri>,
     ghost indexed: { Indexed lookup orders.items } by { Indexed-prop lookup orders.items },
     ghost inside: { Inside orders.items } by { Inside-prop orders.items },
     ghost room: { 128 ≤ vec_capacity orders },
