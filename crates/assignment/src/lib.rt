@@ -4,7 +4,6 @@
 pub mod lookup;
 pub mod orders;
 pub mod resolution;
-pub mod tables;
 
 pub use lookup::Lookup;
 pub use orders::Orders;

@@ -1,5 +1,10 @@
 // Tables by region, made once for all rounds: units and orders never change while they are decided.
-ghost use Rattle.std.specs.Prelude.{◌≡◌, ℕ, vec_len};
+ghost use Rattle.std.specs.Prelude.{◌≡◌, ℕ, ◌≤◌, length, IfOk, vec_len};
+ghost use Rattle.assignment.specs.Places.{acts};
+
+use super::resolution::Resolution;
+use board::Order;
+use std::alloc::{AllocError, Global};
 
 #[derive(Drop)]
 pub struct Lookup {
@@ -9,4 +14,37 @@ pub struct Lookup {
     pub(super) aimed: Vec<Vec<u8>>,
     ghost places: { vec_len place ≡ 256 },
     ghost targets: { vec_len aimed ≡ 256 },
+}
+
+// Whether the order is a move or a support: only these are decided.
+pub fn acts(o: Order) -> bool
+    ensures { result ≡ acts o }
+{
+    match o {
+        Order::Move { .. } | Order::SupportHold { .. } | Order::SupportMove { .. } => true,
+        Order::Hold | Order::Convoy { .. } => false,
+    }
+}
+
+impl Lookup {
+    ghost use Rattle.assignment.specs.Lookup.{Indexed};
+
+    pub fn new(heap: Global, xs: &[Resolution]) -> Result<Lookup, AllocError>
+        requires few { length xs.now ≤ 128 }
+        ensures { IfOk result (λ l. Indexed l xs.now) }
+    {
+        let mut place = vec![in heap; None; 256]?;
+        let mut aimed = Vec::new(heap);
+        for _ in 0..256usize {
+            aimed.push(Vec::new(heap))?;
+        }
+        for (i, x) in xs.iter().enumerate().rev() {
+            let i = i as u8;
+            if acts(x.order) {
+                aimed[x.order.aim() as usize].push(i)?;
+            }
+            place[x.unit.region as usize] = Some(i);
+        }
+        Ok(Lookup { place, aimed })
+    }
 }

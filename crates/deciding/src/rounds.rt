@@ -1,15 +1,13 @@
 // Rounds: all orders decided anew, until nothing changes.
-ghost use Rattle.std.specs.Prelude.{◌≡◌, ◌≤◌, false, length, IfOk, vec_len, vec_capacity};
+ghost use Rattle.std.specs.Prelude.{◌≡◌, ◌≤◌, false, length, vec_len, vec_capacity};
 ghost use Rattle.board.specs.Atlas.{board_of};
-ghost use Rattle.assignment.specs.Places.{Inside};
 ghost use Rattle.paths.specs.Paths.{paths_of};
 ghost use Rattle.deciding.specs.Rounds.{round, decided};
 
 use super::slate::Slate;
-use assignment::{Lookup, Orders, Resolution};
+use assignment::{Orders, Resolution};
 use board::Atlas;
 use paths::paths_into;
-use std::alloc::{AllocError, Global};
 use std::mem::swap;
 use strength::Round;
 use values::Tri;
@@ -48,26 +46,6 @@ pub fn round_into(known: Round, out: &mut Vec<Resolution>) -> bool
 }
 
 impl Slate {
-    pub(super) fn new(heap: Global, fresh: Vec<Resolution>) -> Result<Slate, AllocError>
-        requires few { vec_len fresh ≤ 128 }
-        requires inside { Inside fresh.items }
-        ensures { IfOk result (λ s. s.orders.items ≡ fresh.items) }
-    {
-        let lookup = Lookup::new(heap, fresh.as_slice())?;
-        let mut orders = fresh;
-        orders.reserve(128 - orders.len())?;
-        let spare = Vec::with_capacity(heap, 128)?;
-        let dislodged = Vec::with_capacity(heap, 128)?;
-        let paths = Vec::with_capacity(heap, 128)?;
-        Ok(Slate {
-            lookup,
-            orders,
-            spare,
-            dislodged,
-            paths,
-        })
-    }
-
     // One round; whether something changed.
     fn round(&mut self, atlas: &Atlas) -> bool
         ensures items { self.new.orders.items ≡ round (board_of atlas.now) self.old.orders.items }

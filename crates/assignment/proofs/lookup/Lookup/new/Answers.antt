@@ -6,7 +6,6 @@ use Rattle.assignment.proofs.Numbered.{YieldsList-from_rev_numbered, numbered_tu
 use Rattle.assignment.proofs.lookup.Lookup.new.Goals as goal
 use Rattle.assignment.proofs.lookup.Lookup.new.Goals.{then-acts+in_ok-push-2, else-acts}
 
--- src/tables.rt:30:9
 pub loop-i-init : goal.loop-i-init
 loop-i-init c =
     let blank = c.in_ok-place.ensures.items_if_clones_equal (λ y k. search rules) in
@@ -19,7 +18,6 @@ loop-i-init c =
       filled = filled_none (vec_items c.in_ok-place.place) (map vec_items (vec_items c.loop.aimed)) c.args.xs.now blank (c.loop.invariant.1 ∙ ap (λ n. replicate n []) full);
     }
 
--- src/tables.rt:30:9
 pub loop-i-preserved : goal.loop-i-preserved
 loop-i-preserved c =
     let all = c.args.xs.now in
@@ -52,7 +50,6 @@ loop-i-preserved c =
       ];
     }
 
--- src/tables.rt:21:5
 pub returns : goal.returns
 returns c =
     let xs = c.args.xs.now in
