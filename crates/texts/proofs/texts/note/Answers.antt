@@ -1,10 +1,9 @@
-use Rattle.std.proofs.Common.{◌≡◌, length, vec_items, List, ap, ◌∙◌, arith}
+use Rattle.std.proofs.Common.{length, vec_items, set, ap, ◌∙◌, arith}
 use Rattle.std.proofs.lemmas.List.{length-replicate}
 use Rattle.std.proofs.lemmas.Iterator.Adapters.{YieldsList-from_rev_slice}
-use Rattle.game.specs.declared.text.Written.{Written}
 use Rattle.values.proofs.Backwards.{back_turn, back_end, back_none, back_more, back_all}
 use Rattle.texts.specs.declared.texts.Slot.TheVariants.{Nothing}
-use Rattle.texts.specs.Slots.{Kept}
+use Rattle.texts.specs.Slots.{Kept, slot_of}
 use Rattle.texts.proofs.Noting.{kept_none, kept_past, kept_more}
 use Rattle.texts.proofs.texts.note.Goals as goal
 
@@ -18,9 +17,11 @@ pub loop-w-preserved-then-w-lt7 : goal.loop-w-preserved-then-w-lt7
 loop-w-preserved-then-w-lt7 c =
     let ws = c.args.list.now in
     let t = back_turn ws (YieldsList-from_rev_slice ws (cc)) c.loop-w.yielded _ c.loop-w.yielded_by _ _ c.in-Some.w c.in-Some.is c.next.ensures.steps in
-    let w = c.in-Some.w.now in
-    (c.loop-w.invariant.0, back_more (λ ws. Kept ws _) ws c.loop-w.yielded c.in-Some.w w t
-        (kept_more w _ (vec_items c.loop-w.slots) c.index.result.now c.with.result (omega (arith, c.loop-w.slots.ok.0)) c.if-w-lt7.true (omega arith) c.index.ensures c.with.ensures c.loop-w.invariant.1))
+    let w = c.in-Some.w.now in (
+      c.loop-w.invariant.0,
+      back_more (λ ws. Kept ws (set (vec_items c.loop-w.slots) (slot_of w.power w.region) c.with.result)) ws c.loop-w.yielded c.in-Some.w w t
+          (kept_more w _ (vec_items c.loop-w.slots) c.index.result.now c.with.result (omega (arith, c.loop-w.slots.ok.0)) c.if-w-lt7.true (omega arith) c.index.ensures c.with.ensures c.loop-w.invariant.1),
+    )
 
 pub loop-w-preserved : goal.loop-w-preserved
 loop-w-preserved c =
