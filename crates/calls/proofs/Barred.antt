@@ -5,7 +5,7 @@ use Rattle.values.specs.Fold.{all, any, gather, select}
 use Rattle.geography.specs.declared.region_set.RegionSet.{RegionSet}
 use Rattle.geography.specs.RegionSet.{has, empty, Holds}
 use Rattle.geography.proofs.Bitwise.{has_none}
-use Rattle.position.proofs.Steps.{all_drop}
+use Rattle.position.proofs.Elements.{all_drop}
 use Rattle.calls.specs.Words.{at, every_entry}
 use Rattle.calls.proofs.Strict.{fails_from}
 

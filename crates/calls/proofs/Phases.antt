@@ -1,6 +1,5 @@
 -- The phase of a number is the one that its word means. Assumes nothing.
-use Rattle.std.proofs.Common.{◌≡◌, ℕ, ◌≤◌, true, ltb, refl, subst, arith}
-use Rattle.std.proofs.lemmas.Bool.{lt-ltb, le-ltb}
+use Rattle.std.proofs.Common.{◌≡◌, ℕ, true, ltb, refl, subst}
 use Rattle.game.specs.declared.phase.Phase.{Phase}
 use Rattle.game.specs.declared.phase.Phase.TheVariants.{SpringMoves, SpringRetreats, AutumnMoves, AutumnRetreats, Winter}
 use Rattle.game.specs.Number.{phase_number}

@@ -7,7 +7,7 @@ use Rattle.geography.specs.Links.{Ends, no_edge}
 use Rattle.board.specs.declared.region.Region.{Region}
 use Rattle.board.specs.Board.{Board, on_board, can_stand, good_edge, good_board, is_power}
 use Rattle.position.specs.Tables.{board_from}
-use Rattle.position.proofs.Steps.{all-at}
+use Rattle.position.proofs.Elements.{all-at}
 
 pub stands_below : (m : Board) (fleet : Bool) (r : ℕ) → length m.regions ≤ 128 → can_stand m fleet r ≡ true → r < 128
 stands_below m fleet r few h = let low = ltb-true r (length m.regions) (and_parts (on_board m r) _ h).0 in omega arith

@@ -1,4 +1,4 @@
-pub mod Steps
+pub mod Elements
 pub mod Placed
 pub mod Ends
 pub mod Barred

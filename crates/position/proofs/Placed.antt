@@ -8,7 +8,7 @@ use Rattle.geography.proofs.Bitwise.{has_none}
 use Rattle.board.specs.declared.unit.Unit.{Unit}
 use Rattle.board.specs.Board.{Board, stands}
 use Rattle.game.specs.Lawful.{places}
-use Rattle.position.proofs.Steps.{all_drop}
+use Rattle.position.proofs.Elements.{all_drop}
 
 -- they are apart and stand, and the set has their regions
 pub record Placed (m : Board) (us : List Unit) (s : RegionSet) : Type 0 where

@@ -1,5 +1,5 @@
 -- Boards and games from the lists that the code's tables hold. Assumes nothing.
-use Rattle.std.specs.Prelude.{ℕ, Bool, ◌&&◌, List, [], length, vec_items, Option}
+use Rattle.std.specs.Prelude.{ℕ, Bool, ◌&&◌, List, length, vec_items, Option}
 use Rattle.values.specs.Fold.{those, all, distinct}
 use Rattle.geography.specs.declared.links.Edge.{Edge}
 use Rattle.geography.specs.declared.region_set.RegionSet.{RegionSet}
@@ -15,10 +15,6 @@ use Rattle.game.specs.Lawful.{places, units_in, from_board}
 
 abbrev pub board_from : List Region → List Edge → List Edge → Board
 board_from regions march sail = record { regions = regions; march = march; sail = sail }
-
--- the regions alone, which say where a unit can be
-abbrev pub land : List Region → Board
-land regions = board_from regions [] []
 
 -- a game on n regions
 abbrev pub game_from : ℕ → Phase → List Unit → List Dislodged → RegionSet → List (Option ℕ) → Game

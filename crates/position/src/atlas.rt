@@ -1,11 +1,11 @@
 // A good board from its regions and edges.
 ghost use Rattle.std.specs.Prelude.{◌≡◌, Bool, true, false, IfOk, MatchOption};
 ghost use Rattle.values.specs.Fold.{all};
-ghost use Rattle.board.specs.Board.{can_stand, good_edge, good_board, is_power};
+ghost use Rattle.board.specs.Board.{land, good_edge, good_board, is_power};
 ghost use Rattle.board.specs.Atlas.{board_of};
-ghost use Rattle.position.specs.Tables.{board_from, land};
+ghost use Rattle.position.specs.Tables.{board_from};
 
-use board::{Atlas, Region};
+use board::{Atlas, Region, can_stand};
 use geography::{Edge, Links};
 use std::alloc::{AllocError, Global};
 
@@ -20,21 +20,6 @@ fn good_homes(regions: &[Region]) -> bool
     ensures { result ≡ all (λ r. is_power r.home) regions.now }
 {
     regions.iter().all(|region| is_power(region.home))
-}
-
-// Whether a fleet, or else an army, can be in `r`.
-fn can_stand(regions: &[Region], fleet: bool, r: u8) -> bool
-    ensures { result ≡ can_stand (land regions.now) fleet r }
-{
-    if r as usize >= regions.len() {
-        return false;
-    }
-    let kind = regions[r as usize].kind;
-    if fleet {
-        kind.sailable()
-    } else {
-        kind.marchable()
-    }
 }
 
 fn good_edge(regions: &[Region], fleet: bool, edge: Edge) -> bool

@@ -8,10 +8,10 @@ ghost use Rattle.game.specs.Lawful.{places, from_board, good_owner, good_owners,
 ghost use Rattle.position.specs.Tables.{game_from};
 
 use super::atlas::is_power;
-use super::piece::Standing;
 use board::{Atlas, Region, Unit};
 use game::Dislodged;
 use geography::RegionSet;
+use tables::Standing;
 
 fn stands(atlas: &Atlas, u: Unit) -> bool
     ensures { result ≡ stands (board_of atlas.now) u }

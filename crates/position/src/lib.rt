@@ -3,7 +3,6 @@
 
 pub mod atlas;
 pub mod lawful;
-pub mod piece;
 pub mod position;
 pub mod start;
 

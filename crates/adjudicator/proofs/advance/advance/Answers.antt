@@ -1,4 +1,4 @@
-use Rattle.std.proofs.Common.{◌≡◌, vec_items, refl, sym, ap, ◌∙◌}
+use Rattle.std.proofs.Common.{◌≡◌, vec_items, ◌∙◌}
 use Rattle.game.specs.Owners.{owners_from}
 use Rattle.game.specs.Turn.{turn}
 use Rattle.position.specs.Position.{board_of, game_of}

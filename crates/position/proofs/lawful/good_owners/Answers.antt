@@ -4,7 +4,7 @@ use Rattle.std.proofs.lemmas.Bool.{ne_eqb}
 use Rattle.std.proofs.lemmas.Iterator.{YieldsList-from_slice, YieldsList-from_zip}
 use Rattle.std.proofs.lemmas.Iterator.Search.{all_from_yields_List}
 use Rattle.game.specs.Lawful.{good_owner}
-use Rattle.position.proofs.Steps.{owners_alike, owners_unlike}
+use Rattle.position.proofs.Elements.{owners_alike, owners_unlike}
 use Rattle.position.proofs.lawful.good_owners.Goals as goal
 
 pub returns-then-regions-owners : goal.returns-then-regions-owners

@@ -1,36 +1,10 @@
--- One element on, and the end, of loops over regions, units, those dislodged and owners; what holds of all holds of the rest. Assumes nothing.
-use Rattle.std.proofs.Common.{◌≡◌, ℕ, zero, suc, ◌+◌, ◌<◌, Bool, true, false, ◌&&◌, List, [], ◌∷◌, length, get_or, drop, None, Option, refl, ap, arith}
+-- What holds of all holds of the rest, and at each place; owners beside their regions. Assumes nothing.
+use Rattle.std.proofs.Common.{◌≡◌, ℕ, zero, suc, ◌<◌, Bool, true, false, ◌&&◌, List, [], ◌∷◌, length, get_or, drop, Option, refl, ap, arith}
 use Rattle.std.specs.List.{list_all, zip}
-use Rattle.std.proofs.lemmas.List.{drop_more, drop_all}
 use Rattle.std.proofs.lemmas.Bool.{and_parts}
 use Rattle.values.specs.Fold.{all}
-use Rattle.geography.proofs.Edges.{edge_more}
 use Rattle.board.specs.declared.region.Region.{Region}
-use Rattle.board.specs.declared.unit.Unit.{Unit}
-use Rattle.board.specs.Board.{nowhere}
-use Rattle.game.specs.declared.phase.Dislodged.{Dislodged}
 use Rattle.game.specs.Lawful.{good_owner, good_owners}
-
--- what reads past the end give
-abbrev pub nobody : Unit
-nobody = record { power = 0; region = 0; fleet = false }
-
-abbrev pub none_out : Dislodged
-none_out = record { unit = nobody; from = None }
-
-pub region_more : (xs : List Region) (i : ℕ) → i < length xs → drop i xs ≡ get_or xs i nowhere ∷ drop (i + 1) xs
-region_more xs i h = drop_more xs i nowhere h
-
-pub unit_more : (xs : List Unit) (i : ℕ) → i < length xs → drop i xs ≡ get_or xs i nobody ∷ drop (i + 1) xs
-unit_more xs i h = drop_more xs i nobody h
-
-pub dislodged_more : (xs : List Dislodged) (i : ℕ) → i < length xs → drop i xs ≡ get_or xs i none_out ∷ drop (i + 1) xs
-dislodged_more xs i h = drop_more xs i none_out h
-
-pub owner_more : (xs : List (Option ℕ)) (i : ℕ) → i < length xs → drop i xs ≡ get_or xs i None ∷ drop (i + 1) xs
-owner_more xs i h = drop_more xs i None h
-
-pub ruleset steps = (region_more, unit_more, dislodged_more, owner_more, edge_more, drop_all)
 
 pub all_drop : {X : Type 0} (test : X → Bool) (i : ℕ) (xs : List X) → all test xs ≡ true → all test (drop i xs) ≡ true
 unfolding all
