@@ -1,6 +1,8 @@
 -- Words in the order of regions: one region more, and the same words from what is the same in each. Assumes nothing.
-use Rattle.std.proofs.Common.{◌≡◌, ℕ, zero, suc, ◌+◌, ◌<◌, ◌≤◌, List, [], ◌∷◌, ◌++◌, sym, refl, ap, ◌∙◌, append_assoc, append-nil, add-zero, add-one, arith}
-use Rattle.values.specs.Fold.{each, count_up}
+use Rattle.std.proofs.Common.{◌≡◌, ℕ, zero, suc, ◌+◌, ◌<◌, ◌≤◌, Bool, List, [], ◌∷◌, ◌++◌, filter, sym, refl, ap, ◌∙◌, append_assoc, append-nil, add-zero, add-one, arith}
+use Rattle.std.specs.List.{range_with_len}
+use Rattle.values.specs.Fold.{each, count_up, those}
+use Rattle.values.proofs.Chains.{select_is}
 use Rattle.answers.specs.Words.{by_region}
 
 -- words put behind one another
@@ -35,3 +37,12 @@ each_same give other a (suc k) h =
 
 pub same_words : (give other : ℕ → List ℕ) (n : ℕ) → ((r : ℕ) → r < n → give r ≡ other r) → by_region n give ≡ by_region n other
 same_words give other n h = each_same give other 0 n (λ r l. h r (omega arith))
+
+counted_is : (a n : ℕ) → count_up a n ≡ range_with_len a n
+unfolding count_up
+counted_is a zero = refl
+counted_is a (suc n) = ap (λ l. a ∷ l) (counted_is (a + 1) n)
+
+-- the numbers of a range that pass a test
+pub those_is : (n : ℕ) (test : ℕ → Bool) → filter test (range_with_len 0 n) ≡ those n test
+those_is n test = sym (select_is test (count_up 0 n) ∙ ap (filter test) (counted_is 0 n))

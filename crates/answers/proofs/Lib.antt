@@ -1,3 +1,2 @@
 pub mod InOrder
-pub mod Tabled
 pub mod Spoken

@@ -1,15 +1,14 @@
 -- A game, and what was told of the last phase of moves, as words in the order of regions. Assumes nothing.
-use Rattle.std.specs.Prelude.{ℕ, ◌+◌, Bool, cond, List, [], ◌∷◌, ◌++◌, map, length, Some, None, Option, nat_eq}
-use Rattle.values.specs.Fold.{each, find, count_up}
-use Rattle.tables.specs.ByRegion.{ByRegion}
+use Rattle.std.specs.Prelude.{ℕ, ◌+◌, Bool, cond, List, [], ◌∷◌, ◌++◌, map, length, Some, None, Option}
+use Rattle.values.specs.Fold.{each, count_up}
+use Rattle.tables.specs.Stands.{first_at}
 use Rattle.board.specs.declared.unit.Unit.{Unit}
 use Rattle.board.specs.declared.order.Order.{Order}
 use Rattle.board.specs.declared.order.Order.TheVariants.{Hold, Move, SupportHold, SupportMove, Convoy}
 use Rattle.deciding.specs.declared.report.Report.{Report}
-use Rattle.game.specs.declared.phase.Phase.{Phase}
-use Rattle.game.specs.declared.phase.Phase.TheVariants.{SpringMoves, SpringRetreats, AutumnMoves, AutumnRetreats, Winter}
 use Rattle.game.specs.declared.phase.Dislodged.{Dislodged}
 use Rattle.game.specs.Game.{Game}
+use Rattle.game.specs.Number.{phase_number}
 
 abbrev pub flag : Bool → ℕ
 flag b = cond b 1 0
@@ -18,13 +17,6 @@ flag b = cond b 1 0
 abbrev pub one_more : Option ℕ → ℕ
 one_more None = 0
 one_more (Some n) = n + 1
-
-abbrev pub phase_word : Phase → ℕ
-phase_word SpringMoves = 0
-phase_word SpringRetreats = 1
-phase_word AutumnMoves = 2
-phase_word AutumnRetreats = 3
-phase_word Winter = 4
 
 abbrev pub unit_words : Unit → List ℕ
 unit_words u = u.power ∷ u.region ∷ flag u.fleet ∷ []
@@ -52,23 +44,16 @@ words_if words (Some x) = words x
 abbrev pub by_region : ℕ → (ℕ → List ℕ) → List ℕ
 by_region n give = each give (count_up 0 n)
 
--- the first whose place is r
-abbrev pub first_at : {X : Type 0} → (X → ℕ) → ℕ → List X → Option X
-first_at place r xs = find (λ x. nat_eq r (place x)) xs
-
-abbrev pub Tabled : {X : Type 0} → (X → ℕ) → List (Option X) → List X → Type 0
-Tabled place table xs = ByRegion None (first_at place) table xs
-
-abbrev pub in_order : {X : Type 0} → (X → List ℕ) → (X → ℕ) → ℕ → List X → List ℕ
-in_order words place n xs = by_region n (λ r. words_if words (first_at place r xs))
+abbrev pub in_order : {X : Type 0} → (X → List ℕ) → (X → Unit) → ℕ → List X → List ℕ
+in_order words piece n xs = by_region n (λ r. words_if words (first_at piece r xs))
 
 -- a game on n regions
 abbrev pub game_words : ℕ → Game → List ℕ
 game_words n g =
-    length g.units ∷ (in_order unit_words (λ u. u.region) n g.units ++
+    length g.units ∷ (in_order unit_words (λ u. u) n g.units ++
     (map one_more g.owners ++
-    phase_word g.phase ∷ length g.dislodged ∷ (in_order out_words (λ d. d.unit.region) n g.dislodged ++
+    phase_number g.phase ∷ length g.dislodged ∷ (in_order out_words (λ d. d.unit) n g.dislodged ++
     length g.barred ∷ g.barred)))
 
 abbrev pub last_words : ℕ → List Report → List ℕ
-last_words n xs = in_order report_words (λ x. x.unit.region) n xs
+last_words n xs = in_order report_words (λ x. x.unit) n xs

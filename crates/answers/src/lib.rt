@@ -1,11 +1,10 @@
 // What the referee answers to calls in lines.
-#![tactic(auto)]
+#![tactic(auto, using(crate::proofs::InOrder::joins))]
 
 pub mod answering;
 pub mod games;
 pub mod ordered;
 pub mod reports;
-pub mod table;
 pub mod worded;
 
 pub use answering::{answer, answer_all};

@@ -1,10 +1,10 @@
 // Words in the order of regions.
-ghost use Rattle.std.specs.Prelude.{◌≡◌, ℕ, ◌≤◌, List, ◌++◌, length, None, OnOk, slice_index_or};
-ghost use Rattle.answers.specs.Words.{words_if, by_region, in_order};
+ghost use Rattle.std.specs.Prelude.{◌≡◌, ◌≤◌, List, ◌++◌, OnOk};
+ghost use Rattle.answers.specs.Words.{words_if, in_order};
 
-use super::table::by_region;
 use super::worded::Worded;
-use std::alloc::{AllocError, Global};
+use std::alloc::AllocError;
+use tables::by_region;
 
 fn push_if<X: Worded>(out: &mut Vec<usize>, o: Option<X>) -> Result<(), AllocError>
     ensures { OnOk result (out.new.items ≡ out.old.items ++ words_if X.words_of o) }
@@ -15,30 +15,13 @@ fn push_if<X: Worded>(out: &mut Vec<usize>, o: Option<X>) -> Result<(), AllocErr
     }
 }
 
-fn push_table<X: Worded>(
-    out: &mut Vec<usize>,
-    n: usize,
-    table: &[Option<X>],
-) -> Result<(), AllocError>
-    requires { n ≤ length table.now }
-    ensures { OnOk result (out.new.items ≡ out.old.items ++ by_region n (λ k. words_if X.words_of (slice_index_or table.now k None))) }
-{
-    for k in 0..n {
-        push_if(out, table[k])?;
-    }
-    Ok(())
-}
-
-pub fn push_in_order<X: Worded>(
-    heap: Global,
-    out: &mut Vec<usize>,
-    n: usize,
-    xs: &[X],
-) -> Result<(), AllocError>
+pub fn push_in_order<X: Worded>(out: &mut Vec<usize>, n: usize, xs: &[X]) -> Result<(), AllocError>
     requires { n ≤ 256 }
-    ensures { OnOk result (out.new.items ≡ out.old.items ++ in_order X.words_of X.place_of n xs.now) }
+    ensures { OnOk result (out.new.items ≡ out.old.items ++ in_order X.words_of X.piece n xs.now) }
 {
-    let table = by_region(heap, xs)?;
-    push_table(out, n, table.as_slice())?;
+    let table = by_region(*out.allocator(), xs)?;
+    for o in &table[..n] {
+        push_if(out, *o)?;
+    }
     Ok(())
 }

@@ -12,6 +12,6 @@ pub fn last_words(heap: Global, n: usize, reports: &[Report]) -> Result<Vec<usiz
     ensures { IfOk result (λ v. v.items ≡ last_words n reports.now) }
 {
     let mut out = Vec::new(heap);
-    push_in_order(heap, &mut out, n, reports)?;
+    push_in_order(&mut out, n, reports)?;
     Ok(out)
 }

@@ -9,8 +9,8 @@ loop-line-preserved c =
     let s = stood_by c.loop-line.referee in
     let t = stood_by c.answer.new.referee in
     let done = c.in_ok-answer.ensures in
-    all_more s t c.in-Some.line.now (lines_of c.loop-line.lines.rest.now) (lines_of c.take_line.new.self.rest.now) (string_bytes c.loop-line.out) (string_bytes c.answer.new.out) _ c.in-Some.ensures.lines c.loop-line.invariant done.0 done.1
+    all_more s t c.in-Some.line.now (lines_of c.loop-line.line-iterator.rest.now) (lines_of c.next.new.self.rest.now) (string_bytes c.loop-line.out) (string_bytes c.answer.new.out) _ c.in-Some.ensures.steps c.loop-line.invariant done.0 done.1
 
 pub returns : goal.returns
 returns c =
-    all_none (stood_by c.loop-line.referee) (lines_of c.loop-line.lines.rest.now) (string_bytes c.loop-line.out) _ c.in_default.ensures.lines c.loop-line.invariant
+    all_none (stood_by c.loop-line.referee) (lines_of c.loop-line.line-iterator.rest.now) (string_bytes c.loop-line.out) _ c.in-None.ensures.steps.0 c.loop-line.invariant
