@@ -64,22 +64,22 @@ module _ (m : Board) (g : Game) (ws : List Written) where
       let held = those_held (length m.regions) s _ b in
       (λ i. record { phase = p i; units = u i; dislodged = d i; barred = held i; owners = g.owners }) ∙ turn-moves g.phase m g ws e
 
-  pub after_spring : (us : List Unit) (ds : List Dislodged) → g.phase ≡ SpringRetreats → us ≡ units_after_retreats m g ws → ds ≡ [] → made_of m AutumnMoves us ds empty g.owners ≡ turn m g ws
-  after_spring us ds e u d =
+  pub after_spring : (us : List Unit) → g.phase ≡ SpringRetreats → us ≡ units_after_retreats m g ws → made_of m (next g.phase) us [] empty g.owners ≡ turn m g ws
+  after_spring us e u =
       let none = those_none (length m.regions) in
-      (λ i. record { phase = AutumnMoves; units = u i; dislodged = d i; barred = none i; owners = g.owners }) ∙ ap (λ ph. turn_in ph m g ws) (sym e)
+      (λ i. record { phase = next (e i); units = u i; dislodged = []; barred = none i; owners = g.owners }) ∙ ap (λ ph. turn_in ph m g ws) (sym e)
 
-  pub after_autumn : (us : List Unit) (ds : List Dislodged) (os : List (Option ℕ)) → g.phase ≡ AutumnRetreats → us ≡ units_after_retreats m g ws → ds ≡ [] → os ≡ owners_from 0 m.regions us g.owners →
-      made_of m Winter us ds empty os ≡ turn m g ws
-  after_autumn us ds os e u d o =
+  pub after_autumn : (us : List Unit) (os : List (Option ℕ)) → g.phase ≡ AutumnRetreats → us ≡ units_after_retreats m g ws → os ≡ owners_from 0 m.regions us g.owners →
+      made_of m (next g.phase) us [] empty os ≡ turn m g ws
+  after_autumn us os e u o =
       let none = those_none (length m.regions) in
       let owned = o ∙ ap (λ vs. owners_from 0 m.regions vs g.owners) u in
-      (λ i. record { phase = Winter; units = u i; dislodged = d i; barred = none i; owners = owned i }) ∙ ap (λ ph. turn_in ph m g ws) (sym e)
+      (λ i. record { phase = next (e i); units = u i; dislodged = []; barred = none i; owners = owned i }) ∙ ap (λ ph. turn_in ph m g ws) (sym e)
 
-  pub after_winter : (us : List Unit) (ds : List Dislodged) → g.phase ≡ Winter → us ≡ units_after_winter m g.owners ws g.units → ds ≡ [] → made_of m SpringMoves us ds empty g.owners ≡ turn m g ws
-  after_winter us ds e u d =
+  pub after_winter : (us : List Unit) → g.phase ≡ Winter → us ≡ units_after_winter m g.owners ws g.units → made_of m (next g.phase) us [] empty g.owners ≡ turn m g ws
+  after_winter us e u =
       let none = those_none (length m.regions) in
-      (λ i. record { phase = SpringMoves; units = u i; dislodged = d i; barred = none i; owners = g.owners }) ∙ ap (λ ph. turn_in ph m g ws) (sym e)
+      (λ i. record { phase = next (e i); units = u i; dislodged = []; barred = none i; owners = g.owners }) ∙ ap (λ ph. turn_in ph m g ws) (sym e)
 
   -- what is the next game is lawful
   pub stays-lawful : good_board m ≡ true → lawful m g ≡ true → (h : Game) → h ≡ turn m g ws → lawful m h ≡ true

@@ -1,2 +1,3 @@
 pub mod Moved
 pub mod Told
+pub mod Settled

@@ -1,34 +1,24 @@
 // One phase, with all that was written for it. Everything that may want memory comes first; then the position changes.
 ghost use Rattle.std.specs.Prelude.{◌≡◌, true, is_ok, IfOk, if◌then◌else◌};
 ghost use Rattle.deciding.specs.Outcome.{reports};
-ghost use Rattle.game.specs.declared.phase.Phase.TheVariants.{SpringRetreats, AutumnRetreats, Winter};
-ghost use Rattle.game.specs.Game.{is_moves, next};
+ghost use Rattle.game.specs.Game.{is_moves};
+ghost use Rattle.game.specs.Lawful.{lawful};
 ghost use Rattle.game.specs.Texts.{ordered};
 ghost use Rattle.game.specs.Turn.{turn};
 ghost use Rattle.position.specs.Position.{board_of, game_of};
+ghost use Rattle.adjudicator.specs.Settled.{settled, owned};
 ghost use Rattle.adjudicator.specs.Told.{told_in, told};
 
 use super::moves::play_moves;
 use super::rest::{retreat, winter};
 use aftermath::new_owners;
+use board::Unit;
 use deciding::Report;
 use game::Phase;
 use geography::RegionSet;
 use position::Position;
 use std::alloc::{AllocError, Global};
 use texts::Texts;
-
-fn next(phase: Phase) -> Phase
-    ensures { result ≡ next phase }
-{
-    match phase {
-        Phase::SpringMoves => Phase::SpringRetreats,
-        Phase::SpringRetreats => Phase::AutumnMoves,
-        Phase::AutumnMoves => Phase::AutumnRetreats,
-        Phase::AutumnRetreats => Phase::Winter,
-        Phase::Winter => Phase::SpringMoves,
-    }
-}
 
 fn moves(heap: Global, p: &mut Position, texts: &Texts) -> Result<Vec<Report>, AllocError>
     requires { is_moves p.old.phase ≡ true }
@@ -40,49 +30,23 @@ fn moves(heap: Global, p: &mut Position, texts: &Texts) -> Result<Vec<Report>, A
     p.units = moved.units;
     p.dislodged = moved.dislodged;
     p.barred = moved.barred;
-    p.phase = next(p.phase);
+    p.phase = p.phase.next();
     Ok(moved.reports)
 }
 
-fn spring_retreats(heap: Global, p: &mut Position, texts: &Texts) -> Result<(), AllocError>
-    requires { p.old.phase ≡ SpringRetreats }
+// The next phase, with nobody waiting and nothing barred, and with new owners where there are any.
+fn settle(p: &mut Position, units: Vec<Unit>, owners: Option<Vec<Option<u8>>>)
+    requires { lawful (board_of p.old) (settled p.old units.items (owned owners p.old.owners.items)) ≡ true }
     ensures board { board_of p.new ≡ board_of p.old }
-    ensures game { game_of p.new ≡ (if is_ok result then turn (board_of p.old) (game_of p.old) texts.now.list.items else game_of p.old) }
+    ensures game { game_of p.new ≡ settled p.old units.items (owned owners p.old.owners.items) }
 {
-    let units = retreat(heap, p, texts)?;
     p.units = units;
+    if let Some(owners) = owners {
+        p.owners = owners;
+    }
     p.dislodged.clear();
     p.barred = RegionSet::EMPTY;
-    p.phase = Phase::AutumnMoves;
-    Ok(())
-}
-
-fn autumn_retreats(heap: Global, p: &mut Position, texts: &Texts) -> Result<(), AllocError>
-    requires { p.old.phase ≡ AutumnRetreats }
-    ensures board { board_of p.new ≡ board_of p.old }
-    ensures game { game_of p.new ≡ (if is_ok result then turn (board_of p.old) (game_of p.old) texts.now.list.items else game_of p.old) }
-{
-    let units = retreat(heap, p, texts)?;
-    let owners = new_owners(heap, &p.atlas, units.as_slice(), p.owners.as_slice())?;
-    p.units = units;
-    p.owners = owners;
-    p.dislodged.clear();
-    p.barred = RegionSet::EMPTY;
-    p.phase = Phase::Winter;
-    Ok(())
-}
-
-fn winter_turn(heap: Global, p: &mut Position, texts: &Texts) -> Result<(), AllocError>
-    requires { p.old.phase ≡ Winter }
-    ensures board { board_of p.new ≡ board_of p.old }
-    ensures game { game_of p.new ≡ (if is_ok result then turn (board_of p.old) (game_of p.old) texts.now.list.items else game_of p.old) }
-{
-    let units = winter(heap, p, texts)?;
-    p.units = units;
-    p.dislodged.clear();
-    p.barred = RegionSet::EMPTY;
-    p.phase = Phase::SpringMoves;
-    Ok(())
+    p.phase = p.phase.next();
 }
 
 // The next game, and after moves what is told of them; without memory nothing changes.
@@ -98,15 +62,19 @@ pub fn advance(
     match p.phase {
         Phase::SpringMoves | Phase::AutumnMoves => Ok(Some(moves(heap, p, texts)?)),
         Phase::SpringRetreats => {
-            spring_retreats(heap, p, texts)?;
+            let units = retreat(heap, p, texts)?;
+            settle(p, units, None);
             Ok(None)
         }
         Phase::AutumnRetreats => {
-            autumn_retreats(heap, p, texts)?;
+            let units = retreat(heap, p, texts)?;
+            let owners = new_owners(heap, &p.atlas, units.as_slice(), p.owners.as_slice())?;
+            settle(p, units, Some(owners));
             Ok(None)
         }
         Phase::Winter => {
-            winter_turn(heap, p, texts)?;
+            let units = winter(heap, p, texts)?;
+            settle(p, units, None);
             Ok(None)
         }
     }

@@ -11,9 +11,9 @@ pub fn barred_regions(p: &Position) -> RegionSet
     ensures { Holds result (game_of p.now).barred }
 {
     let mut barred = RegionSet::EMPTY;
-    for r in 0..p.atlas.regions.len() {
-        if p.barred.contains(r as u8) {
-            barred.insert(r as u8);
+    for r in 0..p.atlas.regions.len() as u8 {
+        if p.barred.contains(r) {
+            barred.insert(r);
         }
     }
     barred

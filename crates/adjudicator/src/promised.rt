@@ -36,7 +36,7 @@ pub fn begin(referee: &mut Adjudicator, words: &[u32]) -> Result<Verdict, AllocE
     ensures last { referee.new.last.items ≡ referee.old.last.items }
     ensures stands { GamePromise (board_of referee.new.position) (game_of referee.new.position) }
 {
-    <Adjudicator as calls::Referee>::begin(referee, words)
+    referee.begin(words)
 }
 
 // One phase with all that was written for it; what is refused changes nothing.
@@ -48,5 +48,5 @@ pub fn turn(referee: &mut Adjudicator, words: &[u32]) -> Result<Verdict, AllocEr
     ensures promise { TurnPromise (board_of referee.old.position) (game_of referee.old.position) (texts_in words.now) }
     ensures stands { GamePromise (board_of referee.new.position) (game_of referee.new.position) }
 {
-    <Adjudicator as calls::Referee>::turn(referee, words)
+    referee.turn(words)
 }

@@ -16,15 +16,14 @@ use winter::units_after_winter;
 pub fn retreat(heap: Global, p: &Position, texts: &Texts) -> Result<Vec<Unit>, AllocError>
     ensures { IfOk result (λ v. v.items ≡ units_after_retreats (board_of p.now) (game_of p.now) texts.now.list.items) }
 {
-    let units = units_after_retreats(
+    units_after_retreats(
         heap,
         &p.atlas,
         texts,
         p.units.as_slice(),
         p.dislodged.as_slice(),
         barred_regions(p),
-    )?;
-    Ok(units)
+    )
 }
 
 // All units after a winter.

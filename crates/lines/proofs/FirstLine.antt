@@ -1,7 +1,19 @@
 -- A text that is not empty is its first line and the others. Assumes nothing.
-use Rattle.std.proofs.Common.{◌≡◌, ℕ, suc, ◌+◌, ◌-◌, ◌<◌, ◌≤◌, Bool, true, false, cond, eqb, ◌⊎◌, List, [], ◌∷◌, length, take, drop, sym, refl, ap, ◌∙◌, inl, inr, add-one, arith}
-use Rattle.std.proofs.lemmas.List.{drop_all, take_rest}
-use Rattle.lines.specs.Split.{join_first, lines_of, line_length}
+use Rattle.std.proofs.Common.{◌≡◌, ℕ, suc, ◌+◌, ◌<◌, Bool, true, false, cond, eqb, ltb, List, [], ◌∷◌, length, take, drop, Some, None, sym, refl, ap, ◌∙◌, add-one, arith}
+use Rattle.std.specs.List.{position, position_or_len}
+use Rattle.std.proofs.lemmas.Bool.{ltb-true, ltb-false}
+use Rattle.std.proofs.lemmas.List.{drop_all, take_all}
+use Rattle.std.proofs.lemmas.List.Recursion.{is_position_or_len}
+use Rattle.lines.specs.Split.{join_first, lines_of}
+
+line_length : List ℕ → ℕ
+line_length [] = 0
+line_length (b ∷ bs) = cond (eqb b 10) 0 (suc (line_length bs))
+
+-- the first newline, or the end
+line_length_is : (bs : List ℕ) → line_length bs ≡ position_or_len (λ b. eqb b 10) bs
+unfolding line_length
+line_length_is bs = is_position_or_len line_length (λ b. eqb b 10) refl (λ b cs. let e : suc (line_length cs) ≡ 1 + line_length cs = omega arith in ap (cond (eqb b 10) 0) e) bs
 
 first_go : (t : Bool) (b : ℕ) (bs : List ℕ) → ((c : ℕ) (cs : List ℕ) → bs ≡ c ∷ cs → lines_of bs ≡ take (line_length bs) bs ∷ lines_of (drop (suc (line_length bs)) bs)) →
     cond t ([] ∷ lines_of bs) (join_first b (lines_of bs)) ≡ take (cond t 0 (suc (line_length bs))) (b ∷ bs) ∷ lines_of (drop (suc (cond t 0 (suc (line_length bs)))) (b ∷ bs))
@@ -15,18 +27,34 @@ unfolding lines_of line_length
 first_cons b [] = first_go (eqb b 10) b [] (λ c cs e. absurd (let z : ◌≡◌ {A = ℕ} 0 1 = cc in omega arith))
 first_cons b (c ∷ cs) = first_go (eqb b 10) b (c ∷ cs) (λ x xs e. first_cons c cs)
 
-first_line : (bs : List ℕ) → 0 < length bs → lines_of bs ≡ take (line_length bs) bs ∷ lines_of (drop (line_length bs + 1) bs)
-first_line [] h = absurd (omega arith)
-first_line (b ∷ bs) h = first_cons b bs ∙ ap (λ n. take (line_length (b ∷ bs)) (b ∷ bs) ∷ lines_of (drop n (b ∷ bs))) (sym (add-one (line_length (b ∷ bs))))
+first_line : (bs : List ℕ) (n : ℕ) → 0 < length bs → n ≡ position_or_len (λ b. eqb b 10) bs → lines_of bs ≡ take n bs ∷ lines_of (drop (n + 1) bs)
+first_line [] n h e = absurd (omega arith)
+first_line (b ∷ bs) n h e = let same : line_length (b ∷ bs) ≡ n = line_length_is (b ∷ bs) ∙ sym e in
+    first_cons b bs ∙ ap (λ k. take k (b ∷ bs) ∷ lines_of (drop (suc k) (b ∷ bs))) same ∙ ap (λ k. take n (b ∷ bs) ∷ lines_of (drop k (b ∷ bs))) (sym (add-one n))
 
 pub no_line : (bs : List ℕ) → length bs ≡ 0 → lines_of bs ≡ []
 unfolding lines_of
 no_line [] h = refl
 no_line (b ∷ bs) h = absurd (omega arith)
 
--- where the next line begins: past the line's end, or at the text's
-pub next_line : (bs : List ℕ) (n k : ℕ) → 0 < length bs → n ≡ line_length bs → ((n < length bs) × (k ≡ n + 1)) ⊎ ((length bs ≤ n) × (k ≡ n)) → lines_of bs ≡ take (n - 0) bs ∷ lines_of (take (length bs - k) (drop k bs))
-next_line bs n k some e (inl p) =
-    first_line bs some ∙ ap (λ m. take m bs ∷ lines_of (drop (m + 1) bs)) (sym e) ∙ (let a : n - 0 ≡ n = omega arith in let b = take_rest bs k in let d = p.1 in rw (a, b, d) refl)
-next_line bs n k some e (inr p) =
-    first_line bs some ∙ ap (λ m. take m bs ∷ lines_of (drop (m + 1) bs)) (sym e) ∙ (let a : n - 0 ≡ n = omega arith in let b = take_rest bs k in let d = p.1 in let x = drop_all (n + 1) bs (omega arith) in let y = drop_all n bs p.0 in rw (a, b, d, x, y) refl)
+-- a line that a newline ends
+pub ended_line : (bs : List ℕ) (n : ℕ) → position (λ b. eqb b 10) bs ≡ Some n → lines_of bs ≡ take n bs ∷ lines_of (drop (n + 1) bs)
+ended_line bs n h = go (ltb k (length bs)) refl h
+  where
+    k : ℕ
+    k = position_or_len (λ b. eqb b 10) bs
+
+    go : (t : Bool) → ltb k (length bs) ≡ t → cond t (Some k) None ≡ Some n → lines_of bs ≡ take n bs ∷ lines_of (drop (n + 1) bs)
+    go true low e = let same : k ≡ n = cc in let room = ltb-true k (length bs) low in first_line bs n (omega arith) (sym same)
+    go false low e = absurd (let z : ◌≡◌ {A = ℕ} 0 1 = cc in omega arith)
+
+-- the last line, that no newline ends
+pub last_line : (bs : List ℕ) → 0 < length bs → position (λ b. eqb b 10) bs ≡ None → lines_of bs ≡ bs ∷ lines_of []
+last_line bs some h = go (ltb k (length bs)) refl h
+  where
+    k : ℕ
+    k = position_or_len (λ b. eqb b 10) bs
+
+    go : (t : Bool) → ltb k (length bs) ≡ t → cond t (Some k) None ≡ None → lines_of bs ≡ bs ∷ lines_of []
+    go true low e = absurd (let z : ◌≡◌ {A = ℕ} 0 1 = cc in omega arith)
+    go false low e = let long = ltb-false k (length bs) low in first_line bs k some refl ∙ ap (λ l. l ∷ lines_of (drop (k + 1) bs)) (take_all k bs long) ∙ ap (λ l. bs ∷ lines_of l) (drop_all (k + 1) bs (omega arith))

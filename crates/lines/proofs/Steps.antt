@@ -1,11 +1,9 @@
 -- One byte or word on, and the end, of loops over them. Assumes nothing.
 use Rattle.std.proofs.Common.{◌≡◌, ℕ, ◌+◌, ◌<◌, ◌≤◌, Bool, true, false, cond, ◌&&◌, eqb, List, [], ◌∷◌, ◌++◌, length, get_or, drop, Some, None, codes, Option, sym, refl, ap, ◌∙◌, append_assoc, append-nil, arith}
 use Rattle.std.proofs.lemmas.List.{drop_more, drop_all}
-use Rattle.std.proofs.lemmas.Bool.{and_parts, eq-eqb}
+use Rattle.std.proofs.lemmas.Bool.{eq-eqb}
 use Rattle.lines.specs.declared.numbers.Step.TheVariants.{Grows, Ends, Bad}
-use Rattle.lines.specs.declared.call.Key.TheVariants.{Begin, Turn}
 use Rattle.lines.specs.Numbers.{before, step_in, onward, finish, numbers_from, words_in}
-use Rattle.lines.specs.Calls.{starts_with, under, call_in}
 
 pub byte_more : (xs : List ℕ) (i : ℕ) → i < length xs → drop i xs ≡ get_or xs i 0 ∷ drop (i + 1) xs
 byte_more xs i h = drop_more xs i 0 h
@@ -44,33 +42,7 @@ module _ (ws : List ℕ) (s : Option ℕ) (bs : List ℕ) (i : ℕ) (whole : Opt
   unfolding numbers_from
   finishes h = ap (λ l. resume ws (numbers_from s l)) (sym (drop_all i bs h)) ∙ so_far
 
--- a line that starts with a key is as long
-pub starts_long : (ks bs : List ℕ) → starts_with ks bs ≡ true → length ks ≤ length bs
-unfolding starts_with
-starts_long [] bs h = omega arith
-starts_long (k ∷ ks) [] h = absurd (let z : ◌≡◌ {A = ℕ} 0 1 = cc in omega arith)
-starts_long (k ∷ ks) (b ∷ bs) h = let rest = starts_long ks bs (and_parts (eqb k b) (starts_with ks bs) h).1 in omega arith
-
-pub starts_short : (ks bs : List ℕ) → length bs < length ks → starts_with ks bs ≡ false
-unfolding starts_with
-starts_short [] bs h = absurd (omega arith)
-starts_short (k ∷ ks) [] h = refl
-starts_short (k ∷ ks) (b ∷ bs) h = rest (eqb k b) (starts_short ks bs (omega arith))
-  where
-    rest : (t : Bool) → starts_with ks bs ≡ false → (t && starts_with ks bs) ≡ false
-    rest true e = e
-    rest false e = refl
-
 -- words behind a space
 pub words_spaced : (bs : List ℕ) → 0 < length bs → get_or bs 0 0 ≡ 32 → words_in bs ≡ numbers_from None (drop 1 bs)
 words_spaced [] some h = absurd (omega arith)
 words_spaced (b ∷ bs) some h = ap (λ t. cond t (numbers_from None bs) None) (eq-eqb b 32 h)
-
--- a line under the first key, and under the second
-pub call_begin : (line : List ℕ) → starts_with (codes "begin") line ≡ true → call_in line ≡ under Begin (words_in (drop 5 line))
-call_begin line h = ap (λ t. cond t (under Begin (words_in (drop 5 line))) (cond (starts_with (codes "turn") line) (under Turn (words_in (drop 4 line))) None)) h
-
-pub call_turn : (line : List ℕ) → starts_with (codes "begin") line ≡ false → starts_with (codes "turn") line ≡ true → call_in line ≡ under Turn (words_in (drop 4 line))
-call_turn line other h =
-    ap (λ t. cond t (under Begin (words_in (drop 5 line))) (cond (starts_with (codes "turn") line) (under Turn (words_in (drop 4 line))) None)) other ∙
-    ap (λ t. cond t (under Turn (words_in (drop 4 line))) None) h

@@ -1,25 +1,14 @@
 // Numbers in decimal, one space apart.
 ghost use Rattle.std.specs.Prelude.{◌≡◌, ℕ, ◌-◌, ◌≤◌, IfOk, None};
-ghost use Rattle.lines.specs.Numbers.{is_digit, grow, step_in, numbers_from, words_in, items};
+ghost use Rattle.lines.specs.Numbers.{grow, step_in, numbers_from, words_in, items};
 
 use std::alloc::{AllocError, Global};
-
-fn is_digit(b: u8) -> bool
-    ensures { result ≡ is_digit b }
-{
-    b >= b'0' && b <= b'9'
-}
 
 // One digit more; a number that fits no word is the greatest word.
 fn grown(n: u32, digit: u8) -> u32
     ensures { result ≡ grow n digit }
 {
-    let wide = n as u64 * 10 + digit as u64;
-    if wide <= 4294967295 {
-        wide as u32
-    } else {
-        4294967295
-    }
+    n.saturating_mul(10).saturating_add(u32::from(digit))
 }
 
 // What a byte does to a number that may have begun.
@@ -34,22 +23,10 @@ fn step_by(number: Option<u32>, b: u8) -> Step
     ensures { result ≡ step_in number b }
 {
     match number {
-        None => {
-            if is_digit(b) {
-                Step::Grows((b - b'0') as u32)
-            } else {
-                Step::Bad
-            }
-        }
-        Some(n) => {
-            if is_digit(b) {
-                Step::Grows(grown(n, b - b'0'))
-            } else if b == b' ' {
-                Step::Ends(n)
-            } else {
-                Step::Bad
-            }
-        }
+        None if b.is_ascii_digit() => Step::Grows(u32::from(b - b'0')),
+        Some(n) if b.is_ascii_digit() => Step::Grows(grown(n, b - b'0')),
+        Some(n) if b == b' ' => Step::Ends(n),
+        _ => Step::Bad,
     }
 }
 

@@ -4,23 +4,19 @@ ghost use Rattle.values.specs.Fold.{each};
 ghost use Rattle.lines.specs.Print.{word_bytes, line_bytes};
 
 use std::alloc::AllocError;
+use std::fmt::Write;
 
-fn push_word(out: &mut String, w: usize) -> Result<(), AllocError>
-    ensures { OnOk result (string_bytes out.new ≡ string_bytes out.old ++ word_bytes w) }
-{
-    let text = format!(in *out.allocator(); " {w}")?;
-    out.push_str(text.as_str())
-}
-
+#[tactic(auto, using(crate::proofs::Steps::steps), unfolding(values::specs::Fold::each))]
 fn push_words(out: &mut String, words: &[usize]) -> Result<(), AllocError>
     ensures { OnOk result (string_bytes out.new ≡ string_bytes out.old ++ each word_bytes words.now) }
 {
     for w in words {
-        push_word(out, *w)?;
+        write!(out, " {w}")?;
     }
     Ok(())
 }
 
+#[tactic(auto, using(crate::proofs::Steps::steps))]
 pub fn push_line(out: &mut String, key: &str, words: &[usize]) -> Result<(), AllocError>
     ensures { OnOk result (string_bytes out.new ≡ string_bytes out.old ++ line_bytes key.now words.now) }
 {

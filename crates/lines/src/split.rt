@@ -1,18 +1,7 @@
 // A text line by line.
-ghost use Rattle.std.specs.Prelude.{◌≡◌, ℕ, ◌<◌, ◌≤◌, List, [], ◌∷◌, length, MatchOption, OnSome};
-ghost use Rattle.lines.specs.Split.{lines_of, line_length};
-
-fn line_length(text: &[u8]) -> usize
-    ensures value { result ≡ line_length text.now }
-    ensures within { result ≤ length text.now }
-{
-    for (i, b) in text.iter().enumerate() {
-        if *b == b'\n' {
-            return i;
-        }
-    }
-    text.len()
-}
+ghost use Rattle.std.specs.Prelude.{length};
+ghost use Rattle.std.specs.Iterator.{at_most, YieldsFirstRef};
+ghost use Rattle.lines.specs.Split.{lines_of};
 
 // The lines that are left.
 #[derive(Drop)]
@@ -20,19 +9,27 @@ pub struct Lines<'a> {
     pub rest: &'a [u8],
 }
 
-impl<'a> Lines<'a> {
-    pub fn take_line(&mut self) -> Option<&'a [u8]>
-        ensures shorter { OnSome result (length self.new.rest.now < length self.old.rest.now) }
-        ensures lines { MatchOption result (lines_of self.old.rest.now ≡ []) (λ l. lines_of self.old.rest.now ≡ l.now ∷ lines_of self.new.rest.now) }
-    {
+impl<'a> Iterator for Lines<'a> {
+    type Item = &'a [u8];
+
+    ghost next_gives = { YieldsFirstRef (λ lines. lines_of lines.rest.now) };
+
+    ghost remaining = { λ lines. at_most (length lines.rest.now) };
+
+    fn next(&mut self) -> Option<&'a [u8]> {
         let rest = self.rest;
         if rest.is_empty() {
             return None;
         }
-        let n = line_length(rest);
-        let line = &rest[0..n];
-        let next = if n < rest.len() { n + 1 } else { n };
-        self.rest = &rest[next..];
-        Some(line)
+        match rest.iter().position(|b| *b == b'\n') {
+            None => {
+                self.rest = &[];
+                Some(rest)
+            }
+            Some(n) => {
+                self.rest = &rest[n + 1..];
+                Some(&rest[..n])
+            }
+        }
     }
 }

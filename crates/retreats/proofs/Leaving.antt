@@ -1,7 +1,9 @@
 -- Retreats by tables: closed regions, goals, how many go to each region, and who lands. Assumes nothing.
-use Rattle.std.proofs.Common.{◌≡◌, ℕ, suc, ◌+◌, ◌<◌, ◌≤◌, Bool, true, false, cond, not, ◌&&◌, ◌||◌, eqb, List, [], ◌∷◌, ◌++◌, map, length, get_or, drop, set, Some, None, Option, sym, refl, ap, ◌∙◌, arith}
-use Rattle.std.proofs.lemmas.List.{drop_more, get_or_default, get_or-map, length-map, length-drop}
-use Rattle.std.proofs.lemmas.Bool.{ne_eqb, eq-eqb}
+use Rattle.std.proofs.Common.{◌≡◌, ℕ, suc, ◌+◌, ◌<◌, ◌≤◌, Bool, true, false, cond, not, ◌&&◌, ◌||◌, eqb, List, [], ◌∷◌, ◌++◌, map, length, get_or, drop, set, replicate, slice_get, Some, None, Option, sym, refl, ap, ◌∙◌, arith, ⊎_elim}
+use Rattle.std.proofs.lemmas.List.{drop_more, drop_all, get_or_default, get_or-map, get_or-replicate, get_or-set_same, get_or-set_other, length-map}
+use Rattle.std.specs.List.{filter_map, zip}
+use Rattle.std.specs.Option.{option_to_list}
+use Rattle.std.proofs.lemmas.Bool.{ne_eqb, eq-eqb, cases_eq}
 use Rattle.values.specs.Fold.{gather, all, each, number, is_in}
 use Rattle.geography.specs.declared.region_set.RegionSet.{RegionSet}
 use Rattle.geography.specs.RegionSet.{has}
@@ -14,16 +16,14 @@ use Rattle.game.specs.Game.{Game}
 use Rattle.game.specs.Lawful.{units_in}
 use Rattle.game.specs.Retreats.{occupied, is_just, may_retreat, retreat_of, arrival, retreated}
 use Rattle.retreats.specs.Retreating.{Retreating, Closed, goals_in, Counted, landing, landings}
+use Rattle.retreats.proofs.Elements.{one_if, added}
 use Rattle.tables.proofs.Folds.{no_unit}
 use Rattle.tables.proofs.Placement.{stand_at}
-use Rattle.tables.proofs.Regions.{region_at, region_skip, region_write}
+use Rattle.tables.specs.ByRegion.{ByRegion}
 
 -- what reads past the end give
 abbrev pub no_out : Dislodged
 no_out = record { unit = no_unit; from = None }
-
-pub out_more : (ds : List Dislodged) (i : ℕ) → i < length ds → drop i ds ≡ get_or ds i no_out ∷ drop (i + 1) ds
-out_more ds i h = drop_more ds i no_out h
 
 pub goal_more : (os : List (Option ℕ)) (i : ℕ) → i < length os → drop i os ≡ get_or os i None ∷ drop (i + 1) os
 goal_more os i h = drop_more os i None h
@@ -53,45 +53,70 @@ goals_le t (o ∷ goals) = go (is_just t o) (goals_le t goals)
     go true h = omega arith
     go false h = omega arith
 
+-- what the table holds so far, with the goals that are left
+abbrev pub Tallied : List ℕ → List (Option ℕ) → List (Option ℕ) → Type 0
+Tallied counts left goals = (r : ℕ) → r < 256 → get_or counts r 0 + goals_in r left ≡ goals_in r goals
+
+pub tally-start : (counts : List ℕ) (goals : List (Option ℕ)) → counts ≡ replicate 256 0 → Tallied counts goals goals
+tally-start counts goals blank r l = let e : get_or counts r 0 ≡ 0 = ap (λ t. get_or t r 0) blank ∙ get_or-replicate 256 r 0 0 l in omega arith
+
 -- x is what was read of the table at t
-pub counted_le : (counts : List ℕ) (goals : List (Option ℕ)) (i t x : ℕ) → Counted counts (drop i goals) → t < 256 → length counts ≡ 256 → x ≡ get_or counts t x → x ≤ length goals
-counted_le counts goals i t x h l long read =
-    let a = region_at 0 goals_in counts (drop i goals) t h l in
-    let b = get_or_default counts t x 0 (omega arith) in
-    let n = goals_le t (drop i goals) in
-    let d = length-drop i goals in
+pub tally_le : (counts : List ℕ) (goals : List (Option ℕ)) (i t x : ℕ) → t < 256 → length counts ≡ 256 → x ≡ get_or counts t x → Tallied counts (drop i goals) goals → x ≤ length goals
+tally_le counts goals i t x h long read so = let a = so t h in let b = get_or_default counts t x 0 (omega arith) in let n = goals_le t goals in omega arith
+
+pub tally_past : (counts : List ℕ) (goals : List (Option ℕ)) (i : ℕ) → i < length goals → get_or goals i None ≡ None → Tallied counts (drop i goals) goals → Tallied counts (drop (i + 1) goals) goals
+unfolding gather
+tally_past counts goals i h none so r l =
+    let e : goals_in r (drop i goals) ≡ goals_in r (drop (i + 1) goals) = ap (goals_in r) (goal_more goals i h) ∙ ap (λ o. goals_in r (o ∷ drop (i + 1) goals)) none in
+    let k = so r l in
     omega arith
 
-pub counted_past : (counts : List ℕ) (goals : List (Option ℕ)) (i : ℕ) → i < length goals → get_or goals i None ≡ None → Counted counts (drop (i + 1) goals) → Counted counts (drop i goals)
+pub tally_more : (counts : List ℕ) (goals : List (Option ℕ)) (i t x : ℕ) → i < length goals → t < 256 → length counts ≡ 256 → get_or goals i None ≡ Some t → x ≡ get_or counts t x →
+    Tallied counts (drop i goals) goals → Tallied (set counts t (x + 1)) (drop (i + 1) goals) goals
 unfolding gather
-counted_past counts goals i h none kept = region_skip 0 goals_in counts goals i None h (λ t. ap (λ o. goals_in t (o ∷ drop (i + 1) goals)) none) kept
-
-pub counted_more : (counts : List ℕ) (goals : List (Option ℕ)) (i t x : ℕ) → i < length goals → t < 256 → length counts ≡ 256 → get_or goals i None ≡ Some t → x ≡ get_or counts t x →
-    Counted counts (drop (i + 1) goals) → Counted (set counts t (x + 1)) (drop i goals)
-unfolding gather
-counted_more counts goals i t x h l long some read kept = region_write 0 goals_in counts goals i None t (x + 1) h (omega arith) here there kept
+tally_more counts goals i t x h low long some read so r l = ⊎_elim same other (cases_eq r t)
   where
     rest : List (Option ℕ)
     rest = drop (i + 1) goals
 
-    open_up : (u : ℕ) (b : Bool) → eqb u t ≡ b → goals_in u (get_or goals i None ∷ rest) ≡ cond b (suc (goals_in u rest)) (goals_in u rest)
-    open_up u b e = ap (λ o. goals_in u (o ∷ rest)) some ∙ ap (λ s. cond {A = ℕ} s (suc (goals_in u rest)) (goals_in u rest)) e
+    open_up : (b : Bool) → eqb r t ≡ b → goals_in r (drop i goals) ≡ cond b (suc (goals_in r rest)) (goals_in r rest)
+    open_up b e = ap (goals_in r) (goal_more goals i h) ∙ ap (λ o. goals_in r (o ∷ rest)) some ∙ ap (λ s. cond {A = ℕ} s (suc (goals_in r rest)) (goals_in r rest)) e
 
-    here : goals_in t (get_or goals i None ∷ rest) ≡ x + 1
-    here =
-        let a = open_up t true (eq-eqb t t refl) in
-        let k : get_or counts t 0 ≡ x = get_or_default counts t 0 x (omega arith) ∙ sym read in
-        let n = region_at 0 goals_in counts rest t kept l in
+    same : r ≡ t → get_or (set counts t (x + 1)) r 0 + goals_in r rest ≡ goals_in r goals
+    same e =
+        let a : get_or (set counts t (x + 1)) r 0 ≡ x + 1 = ap (λ n. get_or (set counts t (x + 1)) n 0) e ∙ get_or-set_same counts t (x + 1) 0 (omega arith) in
+        let b : get_or counts r 0 ≡ x = ap (λ n. get_or counts n 0) e ∙ get_or_default counts t 0 x (omega arith) ∙ sym read in
+        let k = so r l in
+        let o : goals_in r (drop i goals) ≡ suc (goals_in r rest) = open_up true (eq-eqb r t e) in
         omega arith
 
-    there : (u : ℕ) → (u ≡ t → ⊥) → goals_in u (get_or goals i None ∷ rest) ≡ goals_in u rest
-    there u apart = open_up u false (ne_eqb u t apart)
+    other : (r ≡ t → ⊥) → get_or (set counts t (x + 1)) r 0 + goals_in r rest ≡ goals_in r goals
+    other apart =
+        let a : get_or (set counts t (x + 1)) r 0 ≡ get_or counts r 0 = get_or-set_other counts t r (x + 1) 0 apart in
+        let k = so r l in
+        let o : goals_in r (drop i goals) ≡ goals_in r rest = open_up false (ne_eqb r t apart) in
+        omega arith
+
+pub tally-end : (counts : List ℕ) (goals : List (Option ℕ)) (i : ℕ) → length goals ≤ i → Tallied counts (drop i goals) goals → Counted counts goals
+unfolding gather ByRegion
+tally-end counts goals i h so r l = let e : goals_in r (drop i goals) ≡ 0 = ap (goals_in r) (drop_all i goals h) in let k = so r l in omega arith
 
 -- ---- who lands
 number-map : {A B : Type 0} (f : A → B) (test : B → Bool) (xs : List A) → number test (map f xs) ≡ number (λ x. test (f x)) xs
 unfolding gather
 number-map f test [] = refl
 number-map f test (x ∷ xs) = ap (λ n. cond (test (f x)) (suc n) n) (number-map f test xs)
+
+landing_one : (goals : List (Option ℕ)) (u : Unit) (o : Option ℕ) → option_to_list (slice_get (landing goals u o) 0) ≡ landing goals u o
+landing_one goals u None = refl
+landing_one goals u (Some t) = one_if (eqb (goals_in t goals) 1) (record { power = u.power; region = t; fleet = u.fleet })
+
+pub landings_zip : (goals : List (Option ℕ)) (ds : List Dislodged) (own : List (Option ℕ)) → filter_map (λ p. slice_get (landing goals p.0.unit p.1) 0) (zip ds own) ≡ landings goals ds own
+unfolding landings
+landings_zip goals [] own = refl
+landings_zip goals (d ∷ ds) [] = refl
+landings_zip goals (d ∷ ds) (o ∷ own) =
+    added (slice_get (landing goals d.unit o) 0) (filter_map (λ p. slice_get (landing goals p.0.unit p.1) 0) (zip ds own)) ∙ (λ i. landing_one goals d.unit o i ++ landings_zip goals ds own i)
 
 module _ (m : Board) (g : Game) (ws : List Written) where
   landing_is : (u : Unit) (o : Option ℕ) → landing (map (retreat_of m g ws) g.dislodged) u o ≡ arrival m g ws u o

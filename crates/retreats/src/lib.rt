@@ -1,6 +1,7 @@
 // Retreats of dislodged units.
 #![tactic(auto)]
 
+mod pending;
 pub mod retreats;
 
-pub use retreats::{goal_counts, is_just, retreat_goals, units_after_retreats, with_units};
+pub use retreats::{goal_counts, retreat_goals, units_after_retreats, with_units};

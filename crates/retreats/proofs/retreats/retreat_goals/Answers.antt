@@ -7,11 +7,11 @@ use Rattle.retreats.proofs.retreats.retreat_goals.Goals as goal
 
 pub returns : goal.returns
 returns c =
-    IfOk-weaker c.goals_from.result _ _
+    IfOk-weaker c.goals.result _ _
     (λ v h. (
       h.0,
       λ g like.
           h.1 g (closed_from g c.args.units.now c.args.dislodged.now c.with_units.result c.args.barred like c.with_units.ensures) ∙
           ap (map (retreat_of (board_of c.args.atlas.now) g (vec_items c.args.texts.now.list))) (sym like.dislodged),
     ))
-    c.goals_from.ensures
+    c.goals.ensures

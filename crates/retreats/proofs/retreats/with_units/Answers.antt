@@ -1,25 +1,24 @@
-use Rattle.std.proofs.Common.{◌-◌, arith, rules}
-use Rattle.std.proofs.lemmas.List.{drop_all}
-use Rattle.values.specs.Fold.{any}
+use Rattle.std.proofs.Common.{◌||◌, eqb, arith}
+use Rattle.geography.specs.RegionSet.{has}
+use Rattle.board.specs.declared.unit.Unit.{Unit}
 use Rattle.board.specs.Atlas.{board_of}
-use Rattle.tables.proofs.Folds.{unit_more}
-use Rattle.tables.proofs.Placement.{stand_at, board_small}
+use Rattle.game.specs.Retreats.{occupied}
+use Rattle.tables.proofs.Folds.{no_unit}
+use Rattle.retreats.proofs.Elements.{region_small, or_turned, any_more, any_done}
 use Rattle.retreats.proofs.retreats.with_units.Goals as goal
 
-pub loop-i-init : goal.loop-i-init
-unfolding any
-loop-i-init c = λ r. search (rules, drop_all)
+pub loop-u-init : goal.loop-u-init
+loop-u-init c = λ r. or_turned (has c.args.start r) (occupied r c.args.units.now)
 
 pub insert-requires : goal.insert-requires
-insert-requires c =
-    let m = board_of c.args.atlas.now in
-    let p = stand_at m c.args.units.now (c.loop-i.i - 1) c.requires (omega arith) in
-    let b = board_small m c.args.atlas.now.good in
-    omega arith
+insert-requires c = region_small (board_of c.args.atlas.now) c.args.units.now c.loop-u.u-index c.args.atlas.now.good c.requires (omega arith)
 
-pub loop-i-preserved : goal.loop-i-preserved
-unfolding any
-loop-i-preserved c = λ r. let a = c.insert.ensures r in let f = c.loop-i.invariant r in search (rules, unit_more)
+pub loop-u-preserved : goal.loop-u-preserved
+loop-u-preserved c = λ r.
+    let us = c.args.units.now in
+    any_more (λ (u : Unit). eqb r u.region) us c.loop-u.u-index no_unit (has c.loop-u.taken r) (has c.insert.new.self r) (occupied r us || has c.args.start r) (omega arith) (c.insert.ensures r) (c.loop-u.invariant r)
 
 pub returns : goal.returns
-returns c = λ r. let f = c.loop-i.invariant r in search rules
+returns c = λ r.
+    let us = c.args.units.now in
+    any_done (λ (u : Unit). eqb r u.region) us c.loop-u.u-index (has c.loop-u.taken r) (occupied r us || has c.args.start r) (omega arith) (c.loop-u.invariant r)

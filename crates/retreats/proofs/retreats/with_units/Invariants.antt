@@ -3,5 +3,5 @@ use Rattle.geography.specs.RegionSet.{has}
 use Rattle.game.specs.Retreats.{occupied}
 use Rattle.retreats.proofs.retreats.with_units.Given as goal
 
-abbrev pub invariant-loop-i : goal.invariant-loop-i
-invariant-loop-i l = (r : ℕ) → has l.s r ≡ (occupied r (drop l.i l.units) || has l.initial.s r)
+abbrev pub invariant-loop-u : goal.invariant-loop-u
+invariant-loop-u l = (r : ℕ) → (has l.taken r || occupied r (drop l.u-index l.units)) ≡ (occupied r l.units || has l.initial.taken r)

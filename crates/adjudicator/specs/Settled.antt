@@ -1,0 +1,16 @@
+-- A position after retreats or a winter: the next phase, and nobody waits. Assumes nothing.
+use Rattle.std.specs.Prelude.{ℕ, List, [], Some, None, vec_items, Option, Vec}
+use Rattle.std.specs.declared.alloc.Global.{Global}
+use Rattle.board.specs.declared.unit.Unit.{Unit}
+use Rattle.game.specs.Game.{Game, next}
+use Rattle.geography.specs.RegionSet.{empty}
+use Rattle.position.specs.declared.position.Position.{Position}
+use Rattle.position.specs.Tables.{game_on}
+
+-- new owners, or else those that were
+abbrev pub owned : Option (Vec (Option ℕ) Global) → List (Option ℕ) → List (Option ℕ)
+owned None old = old
+owned (Some v) old = vec_items v
+
+abbrev pub settled : Position → List Unit → List (Option ℕ) → Game
+settled p us os = game_on p.atlas (next p.phase) us [] empty os
