@@ -36,7 +36,7 @@ impl Referee for Adjudicator {
                 }
                 Ok(Verdict::Accepted)
             }
-            Err(Fault::Refused(verdict)) => Ok(verdict),
+            Err(Fault::Refused(refusal)) => Ok(refusal.into()),
             Err(Fault::NoMemory) => Err(AllocError {}),
         }
     }

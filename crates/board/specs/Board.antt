@@ -1,5 +1,5 @@
 -- Boards: regions, edges, where a unit can be, and which boards are good. Assumes nothing.
-use Rattle.std.specs.Prelude.{ℕ, Bool, true, false, cond, not, ◌&&◌, List, length, Some, None, Option, ◌==◌, nat_le, nat_lt, slice_index_or}
+use Rattle.std.specs.Prelude.{ℕ, Bool, true, false, cond, not, ◌&&◌, List, [], length, Some, None, Option, ◌==◌, nat_le, nat_lt, slice_index_or}
 use Rattle.values.specs.Fold.{all}
 use Rattle.geography.specs.declared.links.Edge.{Edge}
 use Rattle.board.specs.declared.region.Kind.{Kind}
@@ -12,6 +12,10 @@ pub record Board : Type 0 where
   pub regions : List Region
   pub march : List Edge
   pub sail : List Edge
+
+-- regions, before edges join them
+abbrev pub land : List Region → Board
+land rs = record { regions = rs; march = []; sail = [] }
 
 -- powers are 0 to 6
 abbrev pub powers : ℕ

@@ -6,6 +6,7 @@ ghost use Rattle.board.specs.Atlas.{board_of};
 
 use super::atlas::Atlas;
 use super::order::Order;
+use super::region::can_stand;
 use super::unit::Unit;
 
 impl Atlas {
@@ -18,28 +19,24 @@ impl Atlas {
     pub fn coastal(&self, r: u8) -> bool
         ensures { result ≡ coastal (board_of self.now) r }
     {
-        (r as usize) < self.regions.len() && self.regions[r as usize].kind.is_coast()
+        self.regions
+            .get(r as usize)
+            .is_some_and(|region| region.kind.is_coast())
     }
 
     pub fn at_sea(&self, r: u8) -> bool
         ensures { result ≡ at_sea (board_of self.now) r }
     {
-        (r as usize) < self.regions.len() && self.regions[r as usize].kind.is_sea()
+        self.regions
+            .get(r as usize)
+            .is_some_and(|region| region.kind.is_sea())
     }
 
     // Whether a fleet, or else an army, can be in `r`.
     pub fn can_stand(&self, fleet: bool, r: u8) -> bool
         ensures { result ≡ can_stand (board_of self.now) fleet r }
     {
-        if (r as usize) >= self.regions.len() {
-            return false;
-        }
-        let kind = self.regions[r as usize].kind;
-        if fleet {
-            kind.sailable()
-        } else {
-            kind.marchable()
-        }
+        can_stand(self.regions.as_slice(), fleet, r)
     }
 
     pub fn steps(&self, u: Unit, t: u8) -> bool

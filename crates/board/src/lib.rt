@@ -9,5 +9,5 @@ pub mod unit;
 
 pub use atlas::Atlas;
 pub use order::Order;
-pub use region::{Kind, Region};
+pub use region::{Kind, Region, can_stand};
 pub use unit::Unit;

@@ -52,10 +52,8 @@ impl Order {
     {
         match self {
             Order::Hold => 0,
-            Order::Move { to, .. } => to,
             Order::SupportHold { at } => at,
-            Order::SupportMove { to, .. } => to,
-            Order::Convoy { to, .. } => to,
+            Order::Move { to, .. } | Order::SupportMove { to, .. } | Order::Convoy { to, .. } => to,
         }
     }
 

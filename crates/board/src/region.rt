@@ -1,6 +1,6 @@
 // One region of the board.
 ghost use Rattle.std.specs.Prelude.{◌≡◌};
-ghost use Rattle.board.specs.Board.{marchable, sailable, is_coast, is_sea};
+ghost use Rattle.board.specs.Board.{marchable, sailable, is_coast, is_sea, can_stand, land};
 
 #[derive(Clone, Copy)]
 pub enum Kind {
@@ -48,4 +48,17 @@ impl Kind {
     {
         matches!(self, Kind::Sea)
     }
+}
+
+// Whether a fleet, or else an army, can be in `r`.
+pub fn can_stand(regions: &[Region], fleet: bool, r: u8) -> bool
+    ensures { result ≡ can_stand (land regions.now) fleet r }
+{
+    regions.get(r as usize).is_some_and(|region| {
+        if fleet {
+            region.kind.sailable()
+        } else {
+            region.kind.marchable()
+        }
+    })
 }

@@ -12,11 +12,11 @@ use Rattle.game.specs.Game.{Game}
 use Rattle.game.specs.Lawful.{lawful, places, units_in}
 use Rattle.position.specs.Tables.{game_from}
 use Rattle.calls.specs.declared.sections.Sections.{Sections}
-use Rattle.calls.specs.Words.{at, every_entry}
+use Rattle.calls.specs.Words.{at}
 use Rattle.calls.specs.Begin.{unit_in, good_unit, dislodged_in, phase_in}
-use Rattle.calls.specs.Strict.{unit_on, out_on, Roomy, game_parts, game_means, game_good}
-use Rattle.calls.proofs.Strict.{fails_from, every_from, every_weaker}
-use Rattle.calls.proofs.Barred.{every_word, select_same}
+use Rattle.calls.specs.Strict.{unit_on, out_on, game_parts, game_means, game_good}
+use Rattle.calls.proofs.Strict.{fails_from, all_from, all_weaker}
+use Rattle.calls.proofs.Barred.{select_same}
 
 unit_strict : (m : Board) (ws : List ℕ) → good_unit ws ≡ true → stands m (unit_in ws) ≡ true → unit_on (length m.regions) ws ≡ true
 unit_strict m ws good stand =
@@ -44,50 +44,47 @@ out_stand m g h =
 
 -- the words of the game that mean something, one test after the other
 pub record Means (s : Sections) : Type 0 where
-  pub units : every_entry s.front.units.count 3 good_unit s.front.units.words.now ≡ true
-  pub owners : every_entry s.front.owners.count 1 (λ vs. leb (at vs 0) powers) s.front.owners.words.now ≡ true
+  pub units : all good_unit s.front.units.now ≡ true
+  pub owners : all (λ vs. leb (at vs 0) powers) s.front.owners.now ≡ true
   pub phase : ltb s.phase 5 ≡ true
-  pub dislodged : every_entry s.dislodged.count 4 (λ vs. good_unit vs && leb (at vs 3) s.front.regions.count) s.dislodged.words.now ≡ true
-  pub barred : every_entry s.barred.count 1 (λ vs. ltb (at vs 0) s.front.regions.count) s.barred.words.now ≡ true
+  pub dislodged : all (λ vs. good_unit vs && leb (at vs 3) (length s.front.regions.now)) s.dislodged.now ≡ true
+  pub barred : all (λ w. ltb w (length s.front.regions.now)) s.barred.now ≡ true
 
 means : (s : Sections) → game_means s ≡ true → Means s
 means s h =
-    let a = and_parts (every_entry s.front.units.count 3 good_unit s.front.units.words.now) _ h in
-    let b = and_parts (every_entry s.front.owners.count 1 (λ vs. leb (at vs 0) powers) s.front.owners.words.now) _ a.1 in
+    let a = and_parts (all good_unit s.front.units.now) _ h in
+    let b = and_parts (all (λ vs. leb (at vs 0) powers) s.front.owners.now) _ a.1 in
     let c = and_parts (ltb s.phase 5) _ b.1 in
-    let d = and_parts (every_entry s.dislodged.count 4 (λ vs. good_unit vs && leb (at vs 3) s.front.regions.count) s.dislodged.words.now) _ c.1 in
+    let d = and_parts (all (λ vs. good_unit vs && leb (at vs 3) (length s.front.regions.now)) s.dislodged.now) _ c.1 in
     record { units = a.0; owners = b.0; phase = c.0; dislodged = d.0; barred = d.1 }
 
 from_means : (s : Sections) → Means s → game_means s ≡ true
 from_means s h =
-    and_from (every_entry s.front.units.count 3 good_unit s.front.units.words.now) _ h.units
-    (and_from (every_entry s.front.owners.count 1 (λ vs. leb (at vs 0) powers) s.front.owners.words.now) _ h.owners
+    and_from (all good_unit s.front.units.now) _ h.units
+    (and_from (all (λ vs. leb (at vs 0) powers) s.front.owners.now) _ h.owners
     (and_from (ltb s.phase 5) _ h.phase
-    (and_from (every_entry s.dislodged.count 4 (λ vs. good_unit vs && leb (at vs 3) s.front.regions.count) s.dislodged.words.now) _ h.dislodged h.barred)))
+    (and_from (all (λ vs. good_unit vs && leb (at vs 3) (length s.front.regions.now)) s.dislodged.now) _ h.dislodged h.barred)))
 
-module _ (m : Board) (s : Sections) (same : length m.regions ≡ s.front.regions.count) where
-  pub units_ill : every_entry s.front.units.count 3 (unit_on s.front.regions.count) s.front.units.words.now ≡ false → game_good m s ≡ false
+module _ (m : Board) (s : Sections) (same : length m.regions ≡ length s.front.regions.now) where
+  pub units_ill : all (unit_on (length s.front.regions.now)) s.front.units.now ≡ false → game_good m s ≡ false
   units_ill bad =
-      fails_from (every_entry s.front.units.count 3 (unit_on s.front.regions.count) s.front.units.words.now) (game_good m s)
+      fails_from (all (unit_on (length s.front.regions.now)) s.front.units.now) (game_good m s)
       (λ good.
       let parts = and_parts (game_means s) (lawful m (game_parts s)) good in
-      rw (← same) (every_from good_unit (unit_on (length m.regions)) (stands m) unit_in 3 (unit_strict m) s.front.units.count s.front.units.words.now (means s parts.0).units (units_stand m (game_parts s) parts.1))) bad
+      rw (← same) (all_from good_unit (unit_on (length m.regions)) (stands m) unit_in (unit_strict m) s.front.units.now (means s parts.0).units (units_stand m (game_parts s) parts.1))) bad
 
-  pub dislodged_ill : every_entry s.dislodged.count 4 (out_on s.front.regions.count) s.dislodged.words.now ≡ false → game_good m s ≡ false
+  pub dislodged_ill : all (out_on (length s.front.regions.now)) s.dislodged.now ≡ false → game_good m s ≡ false
   dislodged_ill bad =
-      fails_from (every_entry s.dislodged.count 4 (out_on s.front.regions.count) s.dislodged.words.now) (game_good m s)
+      fails_from (all (out_on (length s.front.regions.now)) s.dislodged.now) (game_good m s)
       (λ good.
       let parts = and_parts (game_means s) (lawful m (game_parts s)) good in
-      every_from (λ vs. good_unit vs && leb (at vs 3) s.front.regions.count) (out_on s.front.regions.count) (λ d. stands m d.unit) dislodged_in 4 (λ vs g t. rw (← same) (out_strict m vs (rw same g) t))
-      s.dislodged.count s.dislodged.words.now (means s parts.0).dislodged (out_stand m (game_parts s) parts.1)) bad
+      all_from (λ vs. good_unit vs && leb (at vs 3) (length s.front.regions.now)) (out_on (length s.front.regions.now)) (λ d. stands m d.unit) dislodged_in (λ vs g t. rw (← same) (out_strict m vs (rw same g) t))
+      s.dislodged.now (means s parts.0).dislodged (out_stand m (game_parts s) parts.1)) bad
 
-  barred_every : Roomy s → every_entry s.barred.count 1 (λ vs. ltb (at vs 0) s.front.regions.count) s.barred.words.now ≡ all (λ w. ltb w s.front.regions.count) s.barred.words.now
-  barred_every room = rw (← room.barred) (every_word (λ w. ltb w s.front.regions.count) s.barred.words.now)
-
-  pub barred_ill : Roomy s → all (λ w. ltb w s.front.regions.count) s.barred.words.now ≡ false → game_good m s ≡ false
-  barred_ill room bad =
-      fails_from (all (λ w. ltb w s.front.regions.count) s.barred.words.now) (game_good m s)
-      (λ good. sym (barred_every room) ∙ (means s (and_parts (game_means s) (lawful m (game_parts s)) good).0).barred) bad
+  pub barred_ill : all (λ w. ltb w (length s.front.regions.now)) s.barred.now ≡ false → game_good m s ≡ false
+  barred_ill bad =
+      fails_from (all (λ w. ltb w (length s.front.regions.now)) s.barred.now) (game_good m s)
+      (λ good. (means s (and_parts (game_means s) (lawful m (game_parts s)) good).0).barred) bad
 
   pub lawful_ill : lawful m (game_parts s) ≡ false → game_good m s ≡ false
   lawful_ill bad = and_right (game_means s) (lawful m (game_parts s)) bad
@@ -97,7 +94,7 @@ module _ (m : Board) (s : Sections) (same : length m.regions ≡ s.front.regions
     pub in_phase : phase_in s.phase ≡ phase
     pub units_are : us ≡ (game_parts s).units
     pub dislodged_are : ds ≡ (game_parts s).dislodged
-    pub barred_are : Holds barred s.barred.words.now
+    pub barred_are : Holds barred s.barred.now
     pub owners_are : os ≡ (game_parts s).owners
 
   pub game_is : (phase : Phase) (us : List Unit) (ds : List Dislodged) (barred : RegionSet) (os : List (Option ℕ)) → Gathered phase us ds barred os → game_from (length m.regions) phase us ds barred os ≡ game_parts s
@@ -106,24 +103,24 @@ module _ (m : Board) (s : Sections) (same : length m.regions ≡ s.front.regions
       let units = h.units_are in
       let dislodged = h.dislodged_are in
       let owners = h.owners_are in
-      let shut = select_same (has barred) (λ r. is_in r s.barred.words.now) h.barred_are (count_up 0 s.front.regions.count) in
+      let shut = select_same (has barred) (λ r. is_in r s.barred.now) h.barred_are (count_up 0 (length s.front.regions.now)) in
       rw (same, ← phases, units, dislodged, owners, shut) refl
 
-  pub read_well : Roomy s → ltb s.phase 5 ≡ true → all (λ w. ltb w s.front.regions.count) s.barred.words.now ≡ true → every_entry s.front.units.count 3 (unit_on s.front.regions.count) s.front.units.words.now ≡ true →
-      every_entry s.front.owners.count 1 (λ vs. leb (at vs 0) powers) s.front.owners.words.now ≡ true → every_entry s.dislodged.count 4 (out_on s.front.regions.count) s.dislodged.words.now ≡ true →
+  pub read_well : ltb s.phase 5 ≡ true → all (λ w. ltb w (length s.front.regions.now)) s.barred.now ≡ true → all (unit_on (length s.front.regions.now)) s.front.units.now ≡ true →
+      all (λ vs. leb (at vs 0) powers) s.front.owners.now ≡ true → all (out_on (length s.front.regions.now)) s.dislodged.now ≡ true →
       lawful m (game_parts s) ≡ true → game_good m s ≡ true
-  read_well room phase barred units owners dislodged law =
+  read_well phase barred units owners dislodged law =
       and_from (game_means s) (lawful m (game_parts s))
       (from_means s
       record {
-        units = every_weaker (unit_on s.front.regions.count) good_unit 3 (λ vs h. (and_parts (good_unit vs) _ h).0) s.front.units.count s.front.units.words.now units;
+        units = all_weaker (unit_on (length s.front.regions.now)) good_unit (λ vs h. (and_parts (good_unit vs) _ h).0) s.front.units.now units;
         owners = owners;
         phase = phase;
-        dislodged = every_weaker (out_on s.front.regions.count) (λ vs. good_unit vs && leb (at vs 3) s.front.regions.count) 4 weaker s.dislodged.count s.dislodged.words.now dislodged;
-        barred = barred_every room ∙ barred;
+        dislodged = all_weaker (out_on (length s.front.regions.now)) (λ vs. good_unit vs && leb (at vs 3) (length s.front.regions.now)) weaker s.dislodged.now dislodged;
+        barred = barred;
       }) law
     where
-      weaker : (vs : List ℕ) → out_on s.front.regions.count vs ≡ true → (good_unit vs && leb (at vs 3) s.front.regions.count) ≡ true
+      weaker : (vs : List ℕ) → out_on (length s.front.regions.now) vs ≡ true → (good_unit vs && leb (at vs 3) (length s.front.regions.now)) ≡ true
       weaker vs h =
-          let parts = and_parts (unit_on s.front.regions.count vs) (leb (at vs 3) s.front.regions.count) h in
-          and_from (good_unit vs) (leb (at vs 3) s.front.regions.count) (and_parts (good_unit vs) _ parts.0).0 parts.1
+          let parts = and_parts (unit_on (length s.front.regions.now) vs) (leb (at vs 3) (length s.front.regions.now)) h in
+          and_from (good_unit vs) (leb (at vs 3) (length s.front.regions.now)) (and_parts (good_unit vs) _ parts.0).0 parts.1

@@ -5,3 +5,5 @@ pub mod Barred
 pub mod GameParts
 pub mod Beginning
 pub mod Phases
+pub mod Taken
+pub mod FiveWords

@@ -1,11 +1,11 @@
 -- What the code asks of words before it makes entries of them; and board and game as the parts give them. Assumes nothing.
-use Rattle.std.specs.Prelude.{◌≡◌, ℕ, ◌*◌, ◌≤◌, Bool, ◌&&◌, List, length, nat_le, nat_lt}
-use Rattle.values.specs.Fold.{those, is_in}
+use Rattle.std.specs.Prelude.{ℕ, Bool, ◌&&◌, List, map, length, nat_le, nat_lt}
+use Rattle.values.specs.Fold.{all, those, is_in}
 use Rattle.board.specs.Board.{Board, good_board, powers}
 use Rattle.game.specs.Game.{Game}
 use Rattle.game.specs.Lawful.{lawful}
 use Rattle.calls.specs.declared.sections.Sections.{Sections}
-use Rattle.calls.specs.Words.{at, entries, every_entry, optional}
+use Rattle.calls.specs.Words.{at, optional}
 use Rattle.calls.specs.Begin.{region_in, good_region, edge_in, unit_in, good_unit, dislodged_in, phase_in}
 
 -- both ends of an edge on a board of n regions
@@ -20,45 +20,29 @@ unit_on n ws = good_unit ws && (nat_lt (at ws 0) powers && nat_lt (at ws 1) n)
 abbrev pub out_on : ℕ → List ℕ → Bool
 out_on n ws = unit_on n ws && nat_le (at ws 3) n
 
--- there are words for what the counts say, and a region fits a byte
-pub record Roomy (s : Sections) : Type 0 where
-  pub few : s.front.regions.count ≤ 128
-  pub regions : s.front.regions.count * 3 ≤ length s.front.regions.words.now
-  pub march : s.front.march.count * 2 ≤ length s.front.march.words.now
-  pub sail : s.front.sail.count * 2 ≤ length s.front.sail.words.now
-  pub units : s.front.units.count * 3 ≤ length s.front.units.words.now
-  pub owners : s.front.owners.count * 1 ≤ length s.front.owners.words.now
-  pub dislodged : s.dislodged.count * 4 ≤ length s.dislodged.words.now
-  pub barred : length s.barred.words.now ≡ s.barred.count
-
 abbrev pub board_parts : Sections → Board
-board_parts s =
-    record {
-      regions = entries s.front.regions.count 3 region_in s.front.regions.words.now;
-      march = entries s.front.march.count 2 edge_in s.front.march.words.now;
-      sail = entries s.front.sail.count 2 edge_in s.front.sail.words.now;
-    }
+board_parts s = record { regions = map region_in s.front.regions.now; march = map edge_in s.front.march.now; sail = map edge_in s.front.sail.now }
 
 abbrev pub game_parts : Sections → Game
 game_parts s =
     record {
       phase = phase_in s.phase;
-      units = entries s.front.units.count 3 unit_in s.front.units.words.now;
-      dislodged = entries s.dislodged.count 4 dislodged_in s.dislodged.words.now;
-      barred = those s.front.regions.count (λ r. is_in r s.barred.words.now);
-      owners = entries s.front.owners.count 1 (λ vs. optional (at vs 0)) s.front.owners.words.now;
+      units = map unit_in s.front.units.now;
+      dislodged = map dislodged_in s.dislodged.now;
+      barred = those (length s.front.regions.now) (λ r. is_in r s.barred.now);
+      owners = map (λ vs. optional (at vs 0)) s.front.owners.now;
     }
 
 -- the words of the board mean something, and it is good
 abbrev pub board_good : Sections → Bool
-board_good s = every_entry s.front.regions.count 3 good_region s.front.regions.words.now && good_board (board_parts s)
+board_good s = all good_region s.front.regions.now && good_board (board_parts s)
 
 -- the words of the game mean something
 abbrev pub game_means : Sections → Bool
 game_means s =
-    every_entry s.front.units.count 3 good_unit s.front.units.words.now && (every_entry s.front.owners.count 1 (λ vs. nat_le (at vs 0) powers) s.front.owners.words.now &&
-    (nat_lt s.phase 5 && (every_entry s.dislodged.count 4 (λ vs. good_unit vs && nat_le (at vs 3) s.front.regions.count) s.dislodged.words.now &&
-    every_entry s.barred.count 1 (λ vs. nat_lt (at vs 0) s.front.regions.count) s.barred.words.now)))
+    all good_unit s.front.units.now && (all (λ vs. nat_le (at vs 0) powers) s.front.owners.now &&
+    (nat_lt s.phase 5 && (all (λ vs. good_unit vs && nat_le (at vs 3) (length s.front.regions.now)) s.dislodged.now &&
+    all (λ w. nat_lt w (length s.front.regions.now)) s.barred.now)))
 
 -- and it is lawful on the board
 abbrev pub game_good : Board → Sections → Bool

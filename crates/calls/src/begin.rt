@@ -8,7 +8,7 @@ use super::board_words::read_board;
 use super::fault::Fault;
 use super::game_words::read_game;
 use super::sections::cut;
-use super::verdict::Verdict;
+use super::verdict::Refusal;
 use position::Position;
 use std::alloc::Global;
 
@@ -16,9 +16,7 @@ use std::alloc::Global;
 pub fn begin_from(heap: Global, words: &[u32]) -> Result<Position, Fault>
     ensures { Answered (begin_verdict words.now) (λ p. (board_of p ≡ board_in words.now) × (game_of p ≡ game_in words.now)) result }
 {
-    let Some(sections) = cut(words) else {
-        return Err(Fault::Refused(Verdict::Misfit));
-    };
+    let sections = cut(words).ok_or(Refusal::Misfit)?;
     let atlas = read_board(heap, &sections)?;
     read_game(heap, atlas, &sections)
 }

@@ -1,16 +1,16 @@
 // A board from its words.
-ghost use Rattle.std.specs.Prelude.{◌≡◌, ℕ, ◌≤◌, nat_lt};
+ghost use Rattle.std.specs.Prelude.{◌≡◌, ℕ, ◌≤◌, length, nat_lt};
 ghost use Rattle.board.specs.Atlas.{board_of};
-ghost use Rattle.calls.specs.declared.verdict.Verdict.TheVariants.{Unlawful};
+ghost use Rattle.calls.specs.declared.verdict.Refusal.TheVariants.{Unlawful};
 ghost use Rattle.calls.specs.Words.{optional};
 ghost use Rattle.calls.specs.Read.{read_if, ReadOr};
 ghost use Rattle.calls.specs.Begin.{kind_in, region_in, good_region, edge_in};
-ghost use Rattle.calls.specs.Strict.{ends_on, Roomy, board_parts, board_good};
+ghost use Rattle.calls.specs.Strict.{ends_on, board_parts, board_good};
 
 use super::fault::Fault;
 use super::reader::{Reader, read_entries};
 use super::sections::Sections;
-use super::verdict::Verdict;
+use super::verdict::Refusal;
 use board::{Atlas, Kind, Region};
 use geography::Edge;
 use position::chart;
@@ -24,6 +24,7 @@ pub fn optional(w: u32) -> Option<u8>
     if w == 0 { None } else { Some((w - 1) as u8) }
 }
 
+// No `TryFrom`: a kind has a number in these words alone, and neither type is of this crate.
 fn kind_of(w: u32) -> Option<Kind>
     ensures { result ≡ read_if (nat_lt w 3) (kind_in w) }
 {
@@ -36,33 +37,27 @@ fn kind_of(w: u32) -> Option<Kind>
 }
 
 #[derive(Clone, Copy)]
-struct Regions {}
+struct Regions;
 
-impl Reader for Regions {
+impl Reader<3> for Regions {
     type Entry = Region;
-
-    ghost width = { λ s. 3 };
 
     ghost good = { λ s ws. good_region ws };
 
     ghost meant = { λ s ws. region_in ws };
 
-    fn words_each(&self) -> usize {
-        3
-    }
-
-    fn read(&self, words: &[u32]) -> Option<Region> {
-        let [kind, centre, home, ..] = words else {
-            return None;
-        };
-        let kind = kind_of(*kind)?;
-        if *centre > 1 || *home > 7 {
+    fn read(&self, words: [u32; 3]) -> Option<Region>
+        ensures { result ≡ read_if (good_region words) (region_in words) }
+    {
+        let [kind, centre, home] = words;
+        let kind = kind_of(kind)?;
+        if centre > 1 || home > 7 {
             return None;
         }
         Some(Region {
             kind,
-            centre: *centre == 1,
-            home: optional(*home),
+            centre: centre == 1,
+            home: optional(home),
         })
     }
 }
@@ -73,63 +68,38 @@ struct Edges {
     regions: u8,
 }
 
-impl Reader for Edges {
+impl Reader<2> for Edges {
     type Entry = Edge;
-
-    ghost width = { λ s. 2 };
 
     ghost good = { λ s ws. ends_on s.regions ws };
 
     ghost meant = { λ s ws. edge_in ws };
 
-    fn words_each(&self) -> usize {
-        2
-    }
-
-    fn read(&self, words: &[u32]) -> Option<Edge> {
-        let [one, two, ..] = words else {
-            return None;
-        };
-        if *one >= self.regions as u32 || *two >= self.regions as u32 {
+    fn read(&self, words: [u32; 2]) -> Option<Edge>
+        ensures { result ≡ read_if (ends_on self.now.regions words) (edge_in words) }
+    {
+        let [one, two] = words;
+        if one >= self.regions as u32 || two >= self.regions as u32 {
             return None;
         }
         Some(Edge {
-            one: *one as u8,
-            two: *two as u8,
+            one: one as u8,
+            two: two as u8,
         })
     }
 }
 
 pub fn read_board(heap: Global, s: &Sections) -> Result<Atlas, Fault>
-    requires { Roomy s.now }
+    requires { length s.now.front.regions.now ≤ 128 }
     ensures { ReadOr (board_good s.now) (λ a. board_of a ≡ board_parts s.now) Unlawful result }
 {
+    let front = s.front;
     let edges = Edges {
-        regions: s.front.regions.count as u8,
+        regions: front.regions.len() as u8,
     };
-    let regions = read_entries(
-        heap,
-        &Regions {},
-        s.front.regions.count,
-        s.front.regions.words,
-        Verdict::Unlawful,
-    )?;
-    let march = read_entries(
-        heap,
-        &edges,
-        s.front.march.count,
-        s.front.march.words,
-        Verdict::Unlawful,
-    )?;
-    let sail = read_entries(
-        heap,
-        &edges,
-        s.front.sail.count,
-        s.front.sail.words,
-        Verdict::Unlawful,
-    )?;
-    match chart(heap, regions, march, sail)? {
-        Some(atlas) => Ok(atlas),
-        None => Err(Fault::Refused(Verdict::Unlawful)),
-    }
+    let regions = read_entries(heap, &Regions, front.regions, Refusal::Unlawful)?;
+    let march = read_entries(heap, &edges, front.march, Refusal::Unlawful)?;
+    let sail = read_entries(heap, &edges, front.sail, Refusal::Unlawful)?;
+    let atlas = chart(heap, regions, march, sail)?;
+    atlas.ok_or(Fault::Refused(Refusal::Unlawful))
 }

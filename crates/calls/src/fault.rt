@@ -2,13 +2,21 @@
 ghost use Rattle.std.specs.Prelude.{◌≡◌};
 ghost use Rattle.calls.specs.declared.fault.Fault.TheVariants.{Refused, NoMemory};
 
-use super::verdict::Verdict;
+use super::verdict::Refusal;
 use std::alloc::{AllocError, AllocFailed as NoRoom};
 
 #[derive(Clone, Copy)]
 pub enum Fault {
-    Refused(Verdict),
+    Refused(Refusal),
     NoMemory,
+}
+
+impl From<Refusal> for Fault {
+    ghost from_gives = { λ e f. f ≡ Refused e };
+
+    fn from(e: Refusal) -> Fault {
+        Fault::Refused(e)
+    }
 }
 
 impl From<AllocError> for Fault {

@@ -1,20 +1,20 @@
 // A game from its words.
-ghost use Rattle.std.specs.Prelude.{◌≡◌, ◌&&◌, length, nat_le, nat_lt};
+ghost use Rattle.std.specs.Prelude.{◌≡◌, ℕ, ◌≤◌, ◌&&◌, length, nat_le, nat_lt};
 ghost use Rattle.board.specs.Atlas.{board_of as atlas_board};
 ghost use Rattle.board.specs.Board.{powers};
 ghost use Rattle.position.specs.Position.{board_of, game_of};
-ghost use Rattle.calls.specs.declared.verdict.Verdict.TheVariants.{Unlawful};
+ghost use Rattle.calls.specs.declared.verdict.Refusal.TheVariants.{Unlawful};
 ghost use Rattle.calls.specs.Words.{at, is_one, optional as optional_in};
 ghost use Rattle.calls.specs.Read.{read_if, ReadOr};
 ghost use Rattle.calls.specs.Begin.{unit_in, dislodged_in};
-ghost use Rattle.calls.specs.Strict.{unit_on, out_on, Roomy, game_parts, game_good};
+ghost use Rattle.calls.specs.Strict.{unit_on, out_on, game_parts, game_good};
 
 use super::barred_words::read_barred;
 use super::board_words::optional;
 use super::fault::Fault;
 use super::reader::{Reader, read_entries};
 use super::sections::Sections;
-use super::verdict::Verdict;
+use super::verdict::Refusal;
 use board::{Atlas, Unit};
 use game::{Dislodged, Phase};
 use position::Position;
@@ -39,24 +39,18 @@ struct Units {
     regions: u8,
 }
 
-impl Reader for Units {
+impl Reader<3> for Units {
     type Entry = Unit;
-
-    ghost width = { λ s. 3 };
 
     ghost good = { λ s ws. unit_on s.regions ws };
 
     ghost meant = { λ s ws. unit_in ws };
 
-    fn words_each(&self) -> usize {
-        3
-    }
-
-    fn read(&self, words: &[u32]) -> Option<Unit> {
-        let [power, region, fleet, ..] = words else {
-            return None;
-        };
-        unit_of(self.regions, *power, *region, *fleet)
+    fn read(&self, words: [u32; 3]) -> Option<Unit>
+        ensures { result ≡ read_if (unit_on self.now.regions words) (unit_in words) }
+    {
+        let [power, region, fleet] = words;
+        unit_of(self.regions, power, region, fleet)
     }
 }
 
@@ -66,97 +60,61 @@ struct Waiting {
     regions: u8,
 }
 
-impl Reader for Waiting {
+impl Reader<4> for Waiting {
     type Entry = Dislodged;
-
-    ghost width = { λ s. 4 };
 
     ghost good = { λ s ws. out_on s.regions ws };
 
     ghost meant = { λ s ws. dislodged_in ws };
 
-    fn words_each(&self) -> usize {
-        4
-    }
-
-    fn read(&self, words: &[u32]) -> Option<Dislodged> {
-        let [power, region, fleet, from, ..] = words else {
-            return None;
-        };
-        let unit = unit_of(self.regions, *power, *region, *fleet)?;
-        if *from > self.regions as u32 {
+    fn read(&self, words: [u32; 4]) -> Option<Dislodged>
+        ensures { result ≡ read_if (out_on self.now.regions words) (dislodged_in words) }
+    {
+        let [power, region, fleet, from] = words;
+        let unit = unit_of(self.regions, power, region, fleet)?;
+        if from > self.regions as u32 {
             return None;
         }
         Some(Dislodged {
             unit,
-            from: optional(*from),
+            from: optional(from),
         })
     }
 }
 
 #[derive(Clone, Copy)]
-struct Owners {}
+struct Owners;
 
-impl Reader for Owners {
+impl Reader<1> for Owners {
     type Entry = Option<u8>;
-
-    ghost width = { λ s. 1 };
 
     ghost good = { λ s ws. nat_le (at ws 0) powers };
 
     ghost meant = { λ s ws. optional_in (at ws 0) };
 
-    fn words_each(&self) -> usize {
-        1
-    }
-
-    fn read(&self, words: &[u32]) -> Option<Option<u8>> {
-        let [owner, ..] = words else {
-            return None;
-        };
-        if *owner > 7 {
+    fn read(&self, words: [u32; 1]) -> Option<Option<u8>>
+        ensures { result ≡ read_if (nat_le (at words 0) powers) (optional_in (at words 0)) }
+    {
+        let [owner] = words;
+        if owner > 7 {
             return None;
         }
-        Some(optional(*owner))
+        Some(optional(owner))
     }
 }
 
 // The game on a board that was read from the same words.
 pub fn read_game(heap: Global, atlas: Atlas, s: &Sections) -> Result<Position, Fault>
-    requires room { Roomy s.now }
-    requires same { length atlas.regions.items ≡ s.now.front.regions.count }
+    requires few { length s.now.front.regions.now ≤ 128 }
+    requires same { length atlas.regions.items ≡ length s.now.front.regions.now }
     ensures { ReadOr (game_good (atlas_board atlas) s.now) (λ p. (board_of p ≡ atlas_board atlas) × (game_of p ≡ game_parts s.now)) Unlawful result }
 {
-    let regions = s.front.regions.count as u8;
-    let Ok(phase) = Phase::try_from(s.phase) else {
-        return Err(Fault::Refused(Verdict::Unlawful));
-    };
-    let Some(barred) = read_barred(regions, s.barred.words) else {
-        return Err(Fault::Refused(Verdict::Unlawful));
-    };
-    let units = read_entries(
-        heap,
-        &Units { regions },
-        s.front.units.count,
-        s.front.units.words,
-        Verdict::Unlawful,
-    )?;
-    let owners = read_entries(
-        heap,
-        &Owners {},
-        s.front.owners.count,
-        s.front.owners.words,
-        Verdict::Unlawful,
-    )?;
-    let dislodged = read_entries(
-        heap,
-        &Waiting { regions },
-        s.dislodged.count,
-        s.dislodged.words,
-        Verdict::Unlawful,
-    )?;
-    match Position::new(atlas, phase, units, dislodged, barred, owners) {
-        Some(position) => Ok(position),
-        None => Err(Fault::Refused(Verdict::Unlawful)),
-    }
+    let regions = s.front.regions.len() as u8;
+    let phase = Phase::try_from(s.phase).map_err(|_| Refusal::Unlawful)?;
+    let barred = read_barred(regions, s.barred).ok_or(Refusal::Unlawful)?;
+    let units = read_entries(heap, &Units { regions }, s.front.units, Refusal::Unlawful)?;
+    let owners = read_entries(heap, &Owners, s.front.owners, Refusal::Unlawful)?;
+    let dislodged = read_entries(heap, &Waiting { regions }, s.dislodged, Refusal::Unlawful)?;
+    let position = Position::new(atlas, phase, units, dislodged, barred, owners);
+    position.ok_or(Fault::Refused(Refusal::Unlawful))
 }

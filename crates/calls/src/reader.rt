@@ -1,50 +1,38 @@
-// Lists of entries, so many words to each, read by whoever knows one entry.
-ghost use Rattle.std.specs.Prelude.{◌≡◌, ℕ, ◌*◌, ◌≤◌, Bool, List, length};
-ghost use Rattle.calls.specs.Words.{entries, every_entry};
+// Lists of entries, read by whoever knows one entry.
+ghost use Rattle.std.specs.Prelude.{◌≡◌, ℕ, Bool, List, map};
+ghost use Rattle.values.specs.Fold.{all};
 ghost use Rattle.calls.specs.Read.{ReadOr, read_if};
 
 use super::fault::Fault;
-use super::verdict::Verdict;
+use super::verdict::Refusal;
 use std::alloc::Global;
 
-// Reads one entry, from the first of its words on.
-pub trait Reader {
+// Reads one entry from its words.
+pub trait Reader<const N: usize> {
     type Entry: Drop;
-
-    ghost width: { Self → ℕ };
 
     ghost good: { Self → List ℕ → Bool };
 
     ghost meant: { Self → List ℕ → Self.Entry };
 
-    fn words_each(&self) -> usize
-        ensures { result ≡ width self.now };
-
     // Nothing where a word means nothing.
-    fn read(&self, words: &[u32]) -> Option<Self::Entry>
-        requires { width self.now ≤ length words.now }
-        ensures { result ≡ read_if (good self.now words.now) (meant self.now words.now) };
+    fn read(&self, words: [u32; N]) -> Option<Self::Entry>
+        ensures { result ≡ read_if (good self.now words.entry) (meant self.now words.entry) };
 }
 
-// So many entries from the front of the words, or the refusal where one is bad.
-pub fn read_entries<R: Reader>(
+// The entries, or the refusal where one is bad.
+pub fn read_entries<const N: usize, R: Reader<N>>(
     heap: Global,
     reader: &R,
-    count: usize,
-    words: &[u32],
-    refusal: Verdict,
+    entries: &[[u32; N]],
+    refusal: Refusal,
 ) -> Result<Vec<R::Entry>, Fault>
-    requires { count * R.width reader.now ≤ length words.now }
-    ensures { ReadOr (every_entry count (R.width reader.now) (R.good reader.now) words.now) (λ v. v.items ≡ entries count (R.width reader.now) (R.meant reader.now) words.now) refusal result }
+    ensures { ReadOr (all (R.good reader.now) entries.now) (λ v. v.items ≡ map (R.meant reader.now) entries.now) refusal result }
 {
     let mut out = Vec::new(heap);
-    let mut rest = words;
-    for i in 0..count {
-        let Some(entry) = reader.read(rest) else {
-            return Err(Fault::Refused(refusal));
-        };
+    for words in entries {
+        let entry = reader.read(*words).ok_or(refusal)?;
         out.push(entry)?;
-        rest = &rest[reader.words_each()..];
     }
     Ok(out)
 }

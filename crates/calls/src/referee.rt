@@ -49,7 +49,7 @@ pub fn begin_anew(
             *position = new;
             Ok(Verdict::Accepted)
         }
-        Err(Fault::Refused(verdict)) => Ok(verdict),
+        Err(Fault::Refused(refusal)) => Ok(refusal.into()),
         Err(Fault::NoMemory) => Err(AllocError {}),
     }
 }

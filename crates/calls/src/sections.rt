@@ -1,19 +1,18 @@
 // The words of a beginning, cut into their parts.
-ghost use Rattle.std.specs.Prelude.{◌≡◌, ℕ, ◌+◌, ◌*◌, ◌≤◌, Bool, true, false, length, MatchOption};
+ghost use Rattle.std.specs.Prelude.{◌≡◌, ℕ, ◌+◌, ◌*◌, ◌<◌, ◌≤◌, Bool, true, false, length, drop, MatchOption};
+ghost use Rattle.std.specs.Simd.{first_chunks};
 ghost use Rattle.calls.specs.Begin.{words_fit};
 ghost use Rattle.calls.specs.Sections.{front_fits, FrontCut, Cut};
-
-use super::part::Part;
 
 // The parts whose counts stand in front, and what comes after them.
 #[derive(Clone, Copy)]
 pub struct Front<'a> {
-    pub regions: Part<'a>,
-    pub march: Part<'a>,
-    pub sail: Part<'a>,
-    pub units: Part<'a>,
+    pub regions: &'a [[u32; 3]],
+    pub march: &'a [[u32; 2]],
+    pub sail: &'a [[u32; 2]],
+    pub units: &'a [[u32; 3]],
     // As many as regions.
-    pub owners: Part<'a>,
+    pub owners: &'a [[u32; 1]],
     pub rest: &'a [u32],
 }
 
@@ -21,8 +20,21 @@ pub struct Front<'a> {
 pub struct Sections<'a> {
     pub front: Front<'a>,
     pub phase: u32,
-    pub dislodged: Part<'a>,
-    pub barred: Part<'a>,
+    pub dislodged: &'a [[u32; 4]],
+    pub barred: &'a [u32],
+}
+
+// So many entries from the front of the words, and what comes after them.
+fn part<const N: usize>(words: &[u32], count: usize) -> (&[[u32; N]], &[u32])
+    requires some { 0 < N }
+    requires room { N * count ≤ length words.now }
+    ensures entries { result.0.now ≡ first_chunks N count words.now }
+    ensures rest { result.1.now ≡ drop (N * count) words.now }
+    ensures long { length result.1.now + N * count ≡ length words.now }
+{
+    let (front, rest) = words.split_at(N * count);
+    let (entries, _) = front.as_chunks();
+    (entries, rest)
 }
 
 fn cut_front(words: &[u32]) -> Option<Front<'_>>
@@ -34,38 +46,22 @@ fn cut_front(words: &[u32]) -> Option<Front<'_>>
     if *regions > 128 || *march > 1024 || *sail > 1024 || *units > 128 {
         return None;
     }
-    let regions = Part {
-        count: *regions as usize,
-        words: body,
-    };
-    if body.len()
-        < 4 * regions.count + 2 * *march as usize + 2 * *sail as usize + 3 * *units as usize + 2
-    {
+    let count = *regions as usize;
+    if body.len() < 4 * count + 2 * *march as usize + 2 * *sail as usize + 3 * *units as usize + 2 {
         return None;
     }
-    let march = Part {
-        count: *march as usize,
-        words: regions.after(3),
-    };
-    let sail = Part {
-        count: *sail as usize,
-        words: march.after(2),
-    };
-    let units = Part {
-        count: *units as usize,
-        words: sail.after(2),
-    };
-    let owners = Part {
-        count: regions.count,
-        words: units.after(3),
-    };
+    let (regions, rest) = part::<3>(body, count);
+    let (march, rest) = part::<2>(rest, *march as usize);
+    let (sail, rest) = part::<2>(rest, *sail as usize);
+    let (units, rest) = part::<3>(rest, *units as usize);
+    let (owners, rest) = part::<1>(rest, count);
     Some(Front {
         regions,
         march,
         sail,
         units,
         owners,
-        rest: owners.after(1),
+        rest,
     })
 }
 
@@ -80,11 +76,8 @@ pub fn cut(words: &[u32]) -> Option<Sections<'_>>
     if *dislodged > 128 || body.len() < 4 * *dislodged as usize + 1 {
         return None;
     }
-    let dislodged = Part {
-        count: *dislodged as usize,
-        words: body,
-    };
-    let [barred, body @ ..] = dislodged.after(4) else {
+    let (dislodged, rest) = part::<4>(body, *dislodged as usize);
+    let [barred, body @ ..] = rest else {
         return None;
     };
     if *barred > 128 || body.len() != *barred as usize {
@@ -94,9 +87,6 @@ pub fn cut(words: &[u32]) -> Option<Sections<'_>>
         front,
         phase: *phase,
         dislodged,
-        barred: Part {
-            count: *barred as usize,
-            words: body,
-        },
+        barred: body,
     })
 }

@@ -5,7 +5,7 @@ ghost use Rattle.calls.specs.Turn.{text_in, written_in, good_text, texts_in, tex
 
 use super::fault::Fault;
 use super::reader::{Reader, read_entries};
-use super::verdict::Verdict;
+use super::verdict::Refusal;
 use board::Order;
 use game::{Text, Written};
 use std::alloc::Global;
@@ -16,6 +16,7 @@ struct Texts {
     regions: u8,
 }
 
+// No `TryFrom`: a text takes two regions beside its kind.
 fn text_of(kind: u32, a: u8, b: u8) -> Option<Text>
     ensures { result ≡ read_if (nat_lt kind 9) (text_in kind a b) }
 {
@@ -39,30 +40,24 @@ fn text_of(kind: u32, a: u8, b: u8) -> Option<Text>
     }
 }
 
-impl Reader for Texts {
+impl Reader<5> for Texts {
     type Entry = Written;
-
-    ghost width = { λ s. 5 };
 
     ghost good = { λ s ws. good_text s.regions ws };
 
     ghost meant = { λ s ws. written_in ws };
 
-    fn words_each(&self) -> usize {
-        5
-    }
-
-    fn read(&self, words: &[u32]) -> Option<Written> {
-        let [power, region, kind, a, b, ..] = words else {
-            return None;
-        };
-        if *power >= 7 || *region >= self.regions as u32 || *a >= 128 || *b >= 128 {
+    fn read(&self, words: [u32; 5]) -> Option<Written>
+        ensures { result ≡ read_if (good_text self.now.regions words) (written_in words) }
+    {
+        let [power, region, kind, a, b] = words;
+        if power >= 7 || region >= self.regions as u32 || a >= 128 || b >= 128 {
             return None;
         }
-        let text = text_of(*kind, *a as u8, *b as u8)?;
+        let text = text_of(kind, a as u8, b as u8)?;
         Some(Written {
-            power: *power as u8,
-            region: *region as u8,
+            power: power as u8,
+            region: region as u8,
             text,
         })
     }
@@ -73,13 +68,8 @@ pub fn read_texts(heap: Global, regions: u8, words: &[u32]) -> Result<Vec<Writte
     ensures { Answered (texts_verdict regions words.now) (λ v. v.items ≡ texts_in words.now) result }
 {
     if words.len() % 5 != 0 || words.len() > 2560 {
-        return Err(Fault::Refused(Verdict::Misfit));
+        return Err(Fault::Refused(Refusal::Misfit));
     }
-    read_entries(
-        heap,
-        &Texts { regions },
-        words.len() / 5,
-        words,
-        Verdict::BadText,
-    )
+    let (entries, _) = words.as_chunks();
+    read_entries(heap, &Texts { regions }, entries, Refusal::BadText)
 }

@@ -1,6 +1,6 @@
 // The answer to a call.
 ghost use Rattle.std.specs.Prelude.{◌≡◌};
-ghost use Rattle.calls.specs.Verdict.{number, is_accepted};
+ghost use Rattle.calls.specs.Verdict.{number, is_accepted, verdict_of};
 
 #[derive(Clone, Copy, PartialEq, Eq)]
 pub enum Verdict {
@@ -29,5 +29,25 @@ impl Verdict {
         ensures { result ≡ is_accepted self }
     {
         matches!(self, Verdict::Accepted)
+    }
+}
+
+// Why words were not accepted.
+#[derive(Clone, Copy, Debug, PartialEq, Eq)]
+pub enum Refusal {
+    Misfit,
+    BadText,
+    Unlawful,
+}
+
+impl From<Refusal> for Verdict {
+    ghost from_gives = { λ refusal verdict. verdict ≡ verdict_of refusal };
+
+    fn from(refusal: Refusal) -> Verdict {
+        match refusal {
+            Refusal::Misfit => Verdict::Misfit,
+            Refusal::BadText => Verdict::BadText,
+            Refusal::Unlawful => Verdict::Unlawful,
+        }
     }
 }

@@ -20,16 +20,6 @@ pub struct Links {
     ghost tied: { Tied edges.items neighbours.items },
 }
 
-fn blank(heap: Global) -> Result<Vec<RegionSet>, AllocError>
-    ensures { IfOk result (λ v. v.items ≡ replicate 256 empty) }
-{
-    let mut neighbours = Vec::new(heap);
-    for i in 0..256usize {
-        neighbours.push(RegionSet::EMPTY)?;
-    }
-    Ok(neighbours)
-}
-
 // `b` becomes a neighbour of `a`.
 fn join(neighbours: &mut Vec<RegionSet>, a: u8, b: u8)
     requires long { vec_len neighbours.old ≡ 256 }
@@ -47,8 +37,7 @@ fn tie(neighbours: &mut Vec<RegionSet>, edges: &[Edge])
     ensures long { vec_len neighbours.new ≡ 256 }
     ensures tied { Tied edges.now neighbours.new.items }
 {
-    for i in (0..edges.len()).rev() {
-        let e = edges[i];
+    for e in edges.iter().rev() {
         join(neighbours, e.one, e.two);
         join(neighbours, e.two, e.one);
     }
@@ -59,7 +48,7 @@ impl Links {
         requires { Ends edges.items }
         ensures { IfOk result (λ s. s.edges.items ≡ edges.items) }
     {
-        let mut neighbours = blank(heap)?;
+        let mut neighbours = vec![in heap; RegionSet::EMPTY; 256]?;
         tie(&mut neighbours, edges.as_slice());
         Ok(Links { edges, neighbours })
     }

@@ -1,4 +1,4 @@
-// A set of regions below 128, as two words.
+// A set of regions below 128. Two words of the machine and no `u128`, as docs/DECISIONS.md has it: a test or a shift touches one word.
 ghost use Rattle.std.specs.Prelude.{◌≡◌, ℕ, ◌<◌, Bool, true, false, ◌&&◌, ◌||◌, List, ◌==◌};
 ghost use Rattle.values.specs.Fold.{any};
 ghost use Rattle.geography.specs.RegionSet.{bit, has, Holds};

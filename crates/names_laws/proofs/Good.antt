@@ -1,10 +1,12 @@
 -- A board's file line by line: what is read keeps its names apart and its words in rows. Assumes nothing.
-use Rattle.std.proofs.Common.{◌≡◌, ℕ, ◌+◌, ◌<◌, Bool, true, false, cond, not, ◌&&◌, List, [], ◌∷◌, Some, None, Ok, Err, Option, sym, refl, ap, ◌∙◌, subst, arith}
+use Rattle.std.proofs.Common.{◌≡◌, ℕ, ◌+◌, ◌<◌, Bool, true, false, cond, not, ◌&&◌, List, [], ◌∷◌, ◌++◌, Some, None, Ok, Err, Option, sym, refl, ap, ◌∙◌, subst, arith}
 use Rattle.std.specs.Prelude.{is_some, codes}
+use Rattle.std.specs.List.{list_all}
 use Rattle.std.proofs.lemmas.List.{length-append}
+use Rattle.std.proofs.lemmas.List.Folds.{list_all-append}
 use Rattle.std.proofs.lemmas.Bool.{and_from, ltb-true}
 use Rattle.values.specs.Fold.{all}
-use Rattle.tables.proofs.Folds.{all_append}
+use Rattle.values.proofs.Chains.{all_is}
 use Rattle.text.specs.Refusal.{misfit}
 use Rattle.text.specs.Lines.{words_of, is_long, is_remark, line_read, go_on, read_lines, is_long_file, lines_of}
 use Rattle.text.specs.Words.{begins, behind, front, is_end, is_name, kind, new_name, place, power}
@@ -61,7 +63,12 @@ Good b = GoodNames b.names × Rowed b
 entry_good : (b : BoardEntries) (e : Entry) → Good b → Fresh b.names e → Good (with_entry b e)
 unfolding all
 entry_good b (RegionEntry name k c h) g f = (
-  record { named = all_append is_name b.names (name ∷ []) g.0.named (and_from (is_name name) true f.0 refl); found = found_more b.names name f.1 g.0.found },
+  record {
+    named =
+        all_is is_name (b.names ++ name ∷ []) ∙ list_all-append is_name b.names (name ∷ []) ∙
+        and_from (list_all is_name b.names) (list_all is_name (name ∷ [])) (sym (all_is is_name b.names) ∙ g.0.named) (and_from (is_name name) true f.0 refl);
+    found = found_more b.names name f.1 g.0.found;
+  },
   record {
     regions = omega (arith, g.1.regions, length-append b.regions (k ∷ c ∷ h ∷ []), length-append b.names (name ∷ []));
     marches = g.1.marches;

@@ -9,6 +9,15 @@ pub enum Tri {
     Yes,
 }
 
+// What is known for sure.
+impl From<bool> for Tri {
+    ghost from_gives = { λ b t. t ≡ sure b };
+
+    fn from(b: bool) -> Tri {
+        if b { Tri::Yes } else { Tri::No }
+    }
+}
+
 impl Tri {
     pub fn not(self) -> Tri
         ensures { result ≡ not_tri self }
@@ -38,12 +47,6 @@ impl Tri {
             (Tri::No, b) => b,
             (Tri::Open, _) => Tri::Open,
         }
-    }
-
-    pub fn sure(b: bool) -> Tri
-        ensures { result ≡ sure b }
-    {
-        if b { Tri::Yes } else { Tri::No }
     }
 
     pub fn is_yes(self) -> bool

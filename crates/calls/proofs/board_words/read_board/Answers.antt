@@ -1,24 +1,25 @@
-use Rattle.std.proofs.Common.{◌≡◌, true, false}
+use Rattle.std.proofs.Common.{◌≡◌, true, false, length}
+use Rattle.std.proofs.lemmas.List.{length-map}
 use Rattle.std.proofs.lemmas.Result.{err_from_is_err_and}
 use Rattle.std.proofs.lemmas.Bool.{and_right}
+use Rattle.values.specs.Fold.{all}
 use Rattle.board.specs.Board.{good_board}
 use Rattle.calls.specs.declared.sections.Sections.{Sections}
-use Rattle.calls.specs.declared.verdict.Verdict.TheVariants.{Unlawful}
-use Rattle.calls.specs.Words.{every_entry}
+use Rattle.calls.specs.declared.verdict.Refusal.TheVariants.{Unlawful}
 use Rattle.calls.specs.Begin.{region_in, good_region}
 use Rattle.calls.specs.Strict.{ends_on, board_parts, board_good}
-use Rattle.calls.proofs.Strict.{handed_on, length-entries, edges_bad, march_bad, sail_bad}
+use Rattle.calls.proofs.Strict.{handed_on, edges_bad, march_bad, sail_bad}
 use Rattle.calls.proofs.board_words.read_board.Goals as goal
 
-march_ill : (s : Sections) → every_entry s.front.march.count 2 (ends_on s.front.regions.count) s.front.march.words.now ≡ false → board_good s ≡ false
+march_ill : (s : Sections) → all (ends_on (length s.front.regions.now)) s.front.march.now ≡ false → board_good s ≡ false
 march_ill s bad =
-    and_right (every_entry s.front.regions.count 3 good_region s.front.regions.words.now) (good_board (board_parts s))
-    (march_bad (board_parts s) (edges_bad (board_parts s) false s.front.regions.count s.front.march.count s.front.march.words.now (length-entries s.front.regions.count 3 region_in s.front.regions.words.now) bad))
+    and_right (all good_region s.front.regions.now) (good_board (board_parts s))
+    (march_bad (board_parts s) (edges_bad (board_parts s) false (length s.front.regions.now) s.front.march.now (length-map s.front.regions.now region_in) bad))
 
-sail_ill : (s : Sections) → every_entry s.front.sail.count 2 (ends_on s.front.regions.count) s.front.sail.words.now ≡ false → board_good s ≡ false
+sail_ill : (s : Sections) → all (ends_on (length s.front.regions.now)) s.front.sail.now ≡ false → board_good s ≡ false
 sail_ill s bad =
-    and_right (every_entry s.front.regions.count 3 good_region s.front.regions.words.now) (good_board (board_parts s))
-    (sail_bad (board_parts s) (edges_bad (board_parts s) true s.front.regions.count s.front.sail.count s.front.sail.words.now (length-entries s.front.regions.count 3 region_in s.front.regions.words.now) bad))
+    and_right (all good_region s.front.regions.now) (good_board (board_parts s))
+    (sail_bad (board_parts s) (edges_bad (board_parts s) true (length s.front.regions.now) s.front.sail.now (length-map s.front.regions.now region_in) bad))
 
 pub returns-in_err-march : goal.returns-in_err-march
 returns-in_err-march c =

@@ -1,10 +1,9 @@
-use Rattle.std.proofs.Common.{◌≡◌, ◌-◌, ◌*◌, ◌≤◌, ◌++◌, length, vec_items}
-use Rattle.calls.specs.Words.{entries, every_entry}
+use Rattle.std.proofs.Common.{◌≡◌, ◌++◌, map, drop, vec_items}
+use Rattle.values.specs.Fold.{all}
 use Rattle.calls.proofs.reader.read_entries.Given as goal
 
--- what is left has room, is good where all is, and comes after what was read
-abbrev pub invariant-loop-i : goal.invariant-loop-i
-invariant-loop-i g l =
-    ((l.count - l.i) * g.R.Reader.width l.reader ≤ length l.rest) × (length l.rest ≤ length l.words) ×
-    (every_entry (l.count - l.i) (g.R.Reader.width l.reader) (g.R.Reader.good l.reader) l.rest ≡ every_entry l.count (g.R.Reader.width l.reader) (g.R.Reader.good l.reader) l.words) ×
-    (vec_items l.out ++ entries (l.count - l.i) (g.R.Reader.width l.reader) (g.R.Reader.meant l.reader) l.rest ≡ entries l.count (g.R.Reader.width l.reader) (g.R.Reader.meant l.reader) l.words)
+-- what is left is good where all is, and comes after what was read
+abbrev pub invariant-loop-words : goal.invariant-loop-words
+invariant-loop-words g l =
+    (all (g.R.Reader.good l.reader) (drop l.words-index l.entries) ≡ all (g.R.Reader.good l.reader) l.entries)
+    × (vec_items l.out ++ map (g.R.Reader.meant l.reader) (drop l.words-index l.entries) ≡ map (g.R.Reader.meant l.reader) l.entries)

@@ -1,0 +1,5 @@
+use Rattle.calls.proofs.FiveWords.{texts_answered}
+use Rattle.calls.proofs.texts.read_texts.Goals as goal
+
+pub returns : goal.returns
+returns c = texts_answered c.args.regions c.args.words.now c.if-words-ne0.false c.if-words-gt2560.false c.as_chunks.result.0.now c.as_chunks.ensures.front c.read_entries.result c.read_entries.ensures
