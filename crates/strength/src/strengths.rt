@@ -56,14 +56,10 @@ pub fn prevent_of(orders: Orders, x: Resolution, there: Option<Resolution>) -> S
     ensures { result ≡ prevent_of x orders.entry.list.now there }
 {
     match there {
-        None => full(orders, x),
-        Some(y) => {
-            if head_to_head(x, y) {
-                Span::either(y.value, Span::exactly(0), full(orders, x))
-            } else {
-                full(orders, x)
-            }
+        Some(y) if head_to_head(x, y) => {
+            Span::either(y.value, Span::exactly(0), full(orders, x))
         }
+        _ => full(orders, x),
     }
 }
 
@@ -85,12 +81,7 @@ pub fn to_beat(orders: Orders, x: Resolution, there: Option<Resolution>) -> Span
 {
     match there {
         None => Span::exactly(0),
-        Some(y) => {
-            if head_to_head(x, y) {
-                full(orders, y)
-            } else {
-                hold_of(orders, y)
-            }
-        }
+        Some(y) if head_to_head(x, y) => full(orders, y),
+        Some(y) => hold_of(orders, y),
     }
 }
