@@ -1,8 +1,9 @@
 -- The tables of a lookup: how they are filled, and what they say. Assumes nothing.
-use Rattle.std.proofs.Common.{◌≡◌, ℕ, suc, ◌+◌, ◌-◌, ◌<◌, Bool, true, false, cond, eqb, List, [], ◌∷◌, ◌++◌, length, get_or, drop, set, replicate, vec_items, Some, None, Option, sym, refl, ap, ◌∙◌, subst, append-nil, arith}
+use Rattle.std.proofs.Common.{◌≡◌, ℕ, suc, ◌+◌, ◌-◌, ◌<◌, Bool, true, false, cond, eqb, List, [], ◌∷◌, ◌++◌, length, get_or, drop, set, replicate, Vec, vec_items, map, Some, None, Option, sym, refl, ap, ◌∙◌, subst, append-nil, arith}
 use Rattle.std.proofs.lemmas.List.{drop_all, get_or_default, get_or-set_same, get_or-set_other, get_or-replicate}
 use Rattle.std.proofs.lemmas.Bool.{eqb-true, eqb-false}
 use Rattle.std.specs.Option.{option_map}
+use Rattle.std.specs.List.{AllByRecursion}
 use Rattle.values.specs.Fold.{gather}
 use Rattle.assignment.specs.declared.resolution.Resolution.{Resolution}
 use Rattle.assignment.specs.Assignment.{nobody, who}
@@ -67,6 +68,11 @@ unfolding aimed_from
 filled_none place aimed xs p a =
     subst (λ ys. Filled (length xs - 0) place aimed ys) (sym (drop_all (length xs - 0) xs (omega arith)))
     (record { places = λ r l. ap (λ t. get_or t r None) p ∙ get_or-replicate 256 r None None l; aims = λ r l. ap (λ t. get_or t r []) a ∙ get_or-replicate 256 r [] [] l })
+
+-- a table of empty lists, made of clones of one
+pub all_empty : {X Z : Type 0} (P : Vec X Z → Type 0) → ((v : Vec X Z) → P v → vec_items v ≡ []) → (vs : List (Vec X Z)) → AllByRecursion P vs → map vec_items vs ≡ replicate (length vs) []
+all_empty P empty [] all = refl
+all_empty P empty (v ∷ vs) all = λ i. empty v all.0 i ∷ all_empty P empty vs all.1 i
 
 -- one turn of filling them from the last order to the first
 module _ (place : List (Option ℕ)) (aimed : List (List ℕ)) (all : List Resolution) (n m i : ℕ) (x : Resolution) (turn : NumberedTurn all n i x) (more : m ≡ n + 1) (small : x.unit.region < 256) (wide : length place ≡ 256) (before : Filled (length all - n) place aimed (drop (length all - n) all)) where

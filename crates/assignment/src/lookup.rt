@@ -34,10 +34,7 @@ impl Lookup {
         ensures { IfOk result (λ l. Indexed l xs.now) }
     {
         let mut place = vec![in heap; None; 256]?;
-        let mut aimed = Vec::new(heap);
-        for _ in 0..256usize {
-            aimed.push(Vec::new(heap))?;
-        }
+        let mut aimed = vec![in heap; Vec::new(heap); 256]?;
         for (i, x) in xs.iter().enumerate().rev() {
             let i = i as u8;
             if acts(x.order) {

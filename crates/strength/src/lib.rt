@@ -1,7 +1,6 @@
 // Strengths, and one order decided by all the others.
 #![tactic(auto)]
 
-pub mod decide;
 pub mod round;
 pub mod strengths;
 pub mod support;

@@ -1,11 +1,7 @@
 // Strengths of moves as far as they are decided: what attacks, what prevents, what has to be beaten.
-ghost use Rattle.std.specs.Prelude.{◌≡◌, ◌<◌, length, slice_index_or};
-ghost use Rattle.board.specs.Atlas.{board_of};
-ghost use Rattle.assignment.specs.Assignment.{nobody};
-ghost use Rattle.paths.specs.Paths.{path};
-ghost use Rattle.strength.specs.Strength.{head_to_head, vacates, against, attack_on, attack, prevent_of, prevent, hold_of, to_beat};
+ghost use Rattle.std.specs.Prelude.{◌≡◌};
+ghost use Rattle.strength.specs.Strength.{head_to_head, vacates, against, attack_on, prevent_of, hold_of, to_beat};
 
-use super::round::Round;
 use super::support::{full, full_but, one_and_support};
 use assignment::{Orders, Resolution};
 use values::{Span, Tri};
@@ -60,14 +56,10 @@ pub fn prevent_of(orders: Orders, x: Resolution, there: Option<Resolution>) -> S
     ensures { result ≡ prevent_of x orders.entry.list.now there }
 {
     match there {
-        None => full(orders, x),
-        Some(y) => {
-            if head_to_head(x, y) {
-                Span::either(y.value, Span::exactly(0), full(orders, x))
-            } else {
-                full(orders, x)
-            }
+        Some(y) if head_to_head(x, y) => {
+            Span::either(y.value, Span::exactly(0), full(orders, x))
         }
+        _ => full(orders, x),
     }
 }
 
@@ -89,42 +81,7 @@ pub fn to_beat(orders: Orders, x: Resolution, there: Option<Resolution>) -> Span
 {
     match there {
         None => Span::exactly(0),
-        Some(y) => {
-            if head_to_head(x, y) {
-                full(orders, y)
-            } else {
-                hold_of(orders, y)
-            }
-        }
-    }
-}
-
-impl<'a> Round<'a> {
-    // The attack of the unit in place `i`, whose order is a move.
-    pub fn attack(self, i: usize) -> Span
-        requires place { i < length self.orders.list.now }
-        ensures { result ≡ attack (board_of self.entry.atlas.now) (slice_index_or self.entry.orders.list.now i nobody) self.entry.orders.list.now }
-    {
-        let x = self.orders.list[i];
-        let there = self.orders.who(x.order.aim());
-        Span::either(
-            self.path_at(i),
-            attack_on(self.orders, x, there),
-            Span::exactly(0),
-        )
-    }
-
-    // How much the move in place `i` keeps others out of the region that it goes to.
-    pub fn prevent(self, i: usize) -> Span
-        requires place { i < length self.orders.list.now }
-        ensures { result ≡ prevent (board_of self.entry.atlas.now) (slice_index_or self.entry.orders.list.now i nobody) self.entry.orders.list.now }
-    {
-        let x = self.orders.list[i];
-        let there = self.orders.who(x.order.aim());
-        Span::either(
-            self.path_at(i),
-            prevent_of(self.orders, x, there),
-            Span::exactly(0),
-        )
+        Some(y) if head_to_head(x, y) => full(orders, y),
+        Some(y) => hold_of(orders, y),
     }
 }

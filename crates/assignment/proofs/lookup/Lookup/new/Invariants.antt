@@ -1,9 +1,6 @@
-use Rattle.std.proofs.Common.{◌≡◌, ◌-◌, length, drop, map, vec_items, vec_len, [], replicate}
+use Rattle.std.proofs.Common.{◌≡◌, ◌-◌, length, drop, map, vec_items, vec_len}
 use Rattle.assignment.proofs.Tabled.{Filled}
 use Rattle.assignment.proofs.lookup.Lookup.new.Given as goal
-
-abbrev pub invariant-loop : goal.invariant-loop
-invariant-loop l = (vec_len l.aimed ≡ l.counter) × (map vec_items (vec_items l.aimed) ≡ replicate l.counter [])
 
 abbrev pub invariant-loop-i : goal.invariant-loop-i
 invariant-loop-i l =
