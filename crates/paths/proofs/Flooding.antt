@@ -1,7 +1,7 @@
 -- Floods over water: tests on sets, and a turn that adds nothing ends the flood. Assumes nothing.
-use Rattle.std.proofs.Common.{◌≡◌, ℕ, zero, suc, ◌+◌, ◌-◌, ◌<◌, ◌≤◌, Bool, true, false, cond, not, ◌&&◌, ◌||◌, eqb, List, [], ◌∷◌, sym, refl, ap, ◌∙◌, ⊎_elim, arith}
+use Rattle.std.proofs.Common.{◌≡◌, ℕ, zero, suc, ◌+◌, ◌-◌, ◌<◌, ◌≤◌, Bool, true, false, cond, not, ◌||◌, eqb, List, [], ◌∷◌, sym, refl, ap, ◌∙◌, ⊎_elim, arith}
 use Rattle.assignment.specs.declared.resolution.Resolution.{Resolution}
-use Rattle.board.specs.Order.{convoys, aim, is_convoyed}
+use Rattle.board.specs.Order.{aim, is_convoyed}
 use Rattle.board.specs.Board.{Board}
 use Rattle.values.specs.Fold.{gather, any, is_in}
 use Rattle.geography.specs.declared.region_set.RegionSet.{RegionSet}
@@ -10,10 +10,7 @@ use Rattle.geography.proofs.Bitwise.{same_test}
 use Rattle.geography.specs.Links.{linked}
 use Rattle.std.proofs.lemmas.Bool.{or_from, or_left, or_right, or_parts, or_cases, eq-eqb, eqb-true}
 use Rattle.paths.specs.Paths.{touches, carrier, reached, flood, chain, surely_stays, may_stay, path}
-use Rattle.values.specs.declared.tri.Tri.{Tri}
 use Rattle.values.specs.declared.tri.Tri.TheVariants.{No, Open, Yes}
-use Rattle.values.specs.Tri.{is_yes, is_no}
-use Rattle.assignment.specs.Assignment.{dislodged}
 
 -- the set of what lies beside r, for a list of regions
 pub touches-any : (m : Board) (r : ℕ) (s : RegionSet) → ((b : ℕ) → has s b ≡ linked r b m.sail) → (rs : List ℕ) → any (has s) rs ≡ touches m r rs

@@ -5,6 +5,7 @@ ghost use Rattle.values.specs.Tri.{is_yes, is_no};
 
 use values::Tri;
 
+// A trait and no closure: the ghost fields of a crossing cannot say that a closure may be called.
 pub trait Staying: Copy {
     ghost stays: { Self → TriOf → Bool };
 

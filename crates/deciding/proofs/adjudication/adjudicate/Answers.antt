@@ -1,4 +1,4 @@
-use Rattle.std.proofs.Common.{◌≡◌, vec_items, sym, ap, ◌∙◌, subst}
+use Rattle.std.proofs.Common.{vec_items, sym, ap, ◌∙◌, subst}
 use Rattle.assignment.specs.Places.{Inside}
 use Rattle.assignment.specs.Lookup.{Indexed}
 use Rattle.deciding.specs.Outcome.{close}

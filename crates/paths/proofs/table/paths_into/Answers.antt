@@ -1,5 +1,5 @@
-use Rattle.std.proofs.Common.{sym, refl, subst, ◌∙◌, rules}
-use Rattle.std.proofs.lemmas.Iterator.{YieldsList, YieldsList-from_slice, YieldsList-from_map}
+use Rattle.std.proofs.Common.{refl, rules}
+use Rattle.std.proofs.lemmas.Iterator.{YieldsList-from_slice, YieldsList-from_map}
 use Rattle.std.proofs.lemmas.Iterator.Adapters.{serves_from_places}
 use Rattle.board.specs.Atlas.{board_of}
 use Rattle.paths.specs.Paths.{path}

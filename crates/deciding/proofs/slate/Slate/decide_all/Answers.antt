@@ -1,6 +1,6 @@
-use Rattle.std.proofs.Common.{◌≡◌, ◌+◌, ◌-◌, length, vec_items, vec_len, sym, ap, ◌∙◌, subst, arith, rules}
+use Rattle.std.proofs.Common.{◌≡◌, ◌+◌, ◌-◌, length, vec_items, vec_len, sym, ap, ◌∙◌, arith}
 use Rattle.board.specs.Atlas.{board_of}
-use Rattle.deciding.specs.Rounds.{round, rounds}
+use Rattle.deciding.specs.Rounds.{rounds}
 use Rattle.deciding.proofs.Again.{rounds_fixed, rounds_more, rounds_none}
 use Rattle.deciding.proofs.slate.Slate.decide_all.Goals as goal
 
