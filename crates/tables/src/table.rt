@@ -1,20 +1,9 @@
 // Tables by region.
-ghost use Rattle.std.specs.Prelude.{◌≡◌, replicate, IfOk, vec_len};
+ghost use Rattle.std.specs.Prelude.{◌≡◌, IfOk, vec_len};
 ghost use Rattle.tables.specs.Stands.{Tabled};
 
 use super::standing::Standing;
 use std::alloc::{AllocError, Global};
-
-// A table that begins with the same entry everywhere.
-pub fn filled<T: Copy>(heap: Global, x: T, n: usize) -> Result<Vec<T>, AllocError>
-    ensures { IfOk result (λ v. (v.items ≡ replicate n x) × (vec_len v ≡ n)) }
-{
-    let mut table = Vec::with_capacity(heap, n)?;
-    for i in 0..n {
-        table.push(x)?;
-    }
-    Ok(table)
-}
 
 // Who stands in each region: from the last to the first, so that the first one stays.
 pub fn by_region<X: Standing>(heap: Global, xs: &[X]) -> Result<Vec<Option<X>>, AllocError>
