@@ -1,6 +1,6 @@
 -- Who came where, from a table filled from the back: who is dislodged, from where, and which regions were contested. Assumes nothing.
-use Rattle.std.proofs.Common.{◌≡◌, ℕ, zero, suc, ◌+◌, ◌<◌, Bool, true, false, cond, ◌&&◌, ◌||◌, eqb, ltb, leb, List, [], ◌∷◌, length, get_or, drop, set, Some, None, is_some, MatchOption, Option, sym, refl, ap, ◌∙◌, ⊎_elim, arith}
-use Rattle.std.proofs.lemmas.List.{drop_more, get_or-map}
+use Rattle.std.proofs.Common.{◌≡◌, ℕ, zero, suc, ◌+◌, ◌<◌, Bool, true, false, cond, ◌&&◌, ◌||◌, eqb, ltb, leb, List, [], ◌∷◌, length, get_or, set, Some, None, is_some, MatchOption, Option, sym, refl, ap, ◌∙◌, ⊎_elim, arith}
+use Rattle.std.proofs.lemmas.List.{get_or-map}
 use Rattle.std.proofs.lemmas.Bool.{cases_Bool, eqb-true, eq-eqb, ne_eqb}
 use Rattle.values.specs.Fold.{gather, any, select, count_up, those, is_in}
 use Rattle.values.specs.declared.tri.Tri.{Tri}
@@ -17,9 +17,6 @@ use Rattle.aftermath.specs.declared.after_moves.Arrival.{Arrival}
 use Rattle.aftermath.specs.declared.after_moves.Arrival.TheVariants.{From, OverWater}
 use Rattle.tables.proofs.Regions.{region_at, region_same, region_put}
 use Rattle.aftermath.specs.Arrivals.{arrival_of, arrival_in, origin, Arrived, succeeded, repelled, paths_of}
-
-pub resolution_more : (xs : List Resolution) (i : ℕ) → i < length xs → drop i xs ≡ get_or xs i nobody ∷ drop (i + 1) xs
-resolution_more xs i h = drop_more xs i nobody h
 
 -- ---- the table of arrivals
 came_not : (r : ℕ) (x : Resolution) → succeeded x ≡ false → came r x ≡ false

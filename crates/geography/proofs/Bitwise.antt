@@ -1,8 +1,7 @@
 -- One bit of a word, of a union and of a power of two. Assumes nothing.
-use Rattle.std.proofs.Common.{◌≡◌, ℕ, zero, suc, ◌+◌, ◌-◌, ◌*◌, ◌/◌, ◌%◌, ◌^◌, ◌<◌, ◌≤◌, Bool, true, false, cond, not, ◌&&◌, ◌||◌, eqb, ltb, List, [], ◌∷◌, length, get_or, drop, sym, refl, ap, ◌∙◌, subst, ⊎_elim, one-mul, div-one, arith, pow_pos, pow_mono, pow-add}
+use Rattle.std.proofs.Common.{◌≡◌, ℕ, zero, suc, ◌+◌, ◌-◌, ◌*◌, ◌/◌, ◌%◌, ◌^◌, ◌<◌, ◌≤◌, Bool, true, false, cond, not, ◌&&◌, ◌||◌, eqb, ltb, List, [], ◌∷◌, sym, refl, ap, ◌∙◌, subst, ⊎_elim, one-mul, div-one, arith, pow_pos, pow_mono, pow-add}
 use native.Mathlib.Nat.{div_self, div-eq_of_lt, pow-succ'}
 use lib.Bits.{bit_and, bit_or, or_shr, or_mod, and_shr, and_mod, and_mask, and_le_l, shifted_even}
-use Rattle.std.proofs.lemmas.List.{drop_more}
 use lib.Pow.{pow-lt}
 use Rattle.std.proofs.lemmas.Nat.{shl-shr, one_shl, shr-shr}
 use Rattle.std.proofs.lemmas.Bool.{cases_order, eq-eqb, ne_eqb, eqb-false, eqb-true, cases_lt, cases_Bool, and_left, and_right, or_from, or_left, or_right, or_parts, or_cases, lt-ltb, le-ltb}
@@ -56,14 +55,6 @@ pub bit_set : (w k j : ℕ) → k < 64 → bit (bit_or w ((1 * 2 ^ k) % 2 ^ 64))
 bit_set w k j h =
     ap (λ n. bit (bit_or w n) j) (one_shl k 64 h) ∙ bit_or_lem w (2 ^ k) j ∙ ap (λ b. bit w j || b) (bit_pow k j) ∙ or_swap (bit w j) (eqb j k)
 
--- both words at once
-pub has_union : (s t : RegionSet) (q : ℕ) → has (record { low = bit_or s.low t.low; high = bit_or s.high t.high }) q ≡ (has s q || has t q)
-has_union s t q = both (ltb q 64)
-  where
-    both : (b : Bool) → cond b (bit (bit_or s.low t.low) q) (bit (bit_or s.high t.high) (q - 64)) ≡ (cond b (bit s.low q) (bit s.high (q - 64)) || cond b (bit t.low q) (bit t.high (q - 64)))
-    both true = bit_or_lem s.low t.low q
-    both false = bit_or_lem s.high t.high (q - 64)
-
 pub has_none : (q : ℕ) → has (record { low = 0; high = 0 }) q ≡ false
 has_none q = none (ltb q 64)
   where
@@ -73,9 +64,6 @@ has_none q = none (ltb q 64)
     none : (b : Bool) → cond b (bit 0 q) (bit 0 (q - 64)) ≡ false
     none true = zero_bit q
     none false = zero_bit (q - 64)
-
-pub byte_more : (xs : List ℕ) (i : ℕ) → i < length xs → drop i xs ≡ get_or xs i 0 ∷ drop (i + 1) xs
-byte_more xs i h = drop_more xs i 0 h
 
 small_and : (m n : ℕ) → m < 2 → n < 2 → eqb (bit_and m n) 1 ≡ (eqb m 1 && eqb n 1)
 small_and zero zero h k = refl
@@ -173,19 +161,6 @@ same_test true true f g = refl
 same_test true false f g = f refl
 same_test false true f g = sym (g refl)
 same_test false false f g = refl
-
--- ---- lists with the same regions
-abbrev pub Like : List ℕ → List ℕ → Type 0
-Like rs ts = (q : ℕ) → is_in q rs ≡ is_in q ts
-
-any_false : (a : RegionSet) (qs : List ℕ) → ((q : ℕ) → is_in q qs ≡ true → has a q ≡ false) → any (has a) qs ≡ false
-unfolding any
-any_false a [] h = refl
-any_false a (q ∷ qs) h = or_from _ _ (h q (or_left _ _ (eq-eqb q q refl))) (any_false a qs (λ p e. h p (or_right _ _ e)))
-
-pub any_like : (a : RegionSet) (rs ts : List ℕ) → Like rs ts → any (has a) rs ≡ any (has a) ts
-any_like a rs ts like =
-    same_test _ _ (λ none. any_false a rs (λ q e. any_some a ts none q (sym (like q) ∙ e))) (λ none. any_false a ts (λ q e. any_some a rs none q (like q ∙ e)))
 
 pub has_same : (a b : RegionSet) → a.low ≡ b.low → a.high ≡ b.high → (q : ℕ) → has a q ≡ has b q
 has_same a b low high q = rw (low, high) refl

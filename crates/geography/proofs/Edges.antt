@@ -1,6 +1,6 @@
 -- Edges into sets. Assumes nothing.
-use Rattle.std.proofs.Common.{◌≡◌, ℕ, zero, suc, ◌+◌, ◌-◌, ◌<◌, Bool, true, false, ◌&&◌, ◌||◌, eqb, List, [], ◌∷◌, length, get_or, drop, set, replicate, sym, refl, ap, ◌∙◌, ⊎_elim, arith}
-use Rattle.std.proofs.lemmas.List.{drop_more, get_or_default, get_or-set_same, get_or-set_other}
+use Rattle.std.proofs.Common.{◌≡◌, ℕ, zero, suc, ◌+◌, ◌-◌, ◌<◌, Bool, true, false, ◌&&◌, ◌||◌, eqb, List, [], ◌∷◌, length, get_or, set, replicate, sym, refl, ap, ◌∙◌, ⊎_elim, arith}
+use Rattle.std.proofs.lemmas.List.{get_or_default, get_or-set_same, get_or-set_other}
 use Rattle.std.proofs.lemmas.Bool.{cases_Bool, eqb-true, eqb-false}
 use Rattle.geography.specs.declared.links.Edge.{Edge}
 use Rattle.geography.specs.declared.region_set.RegionSet.{RegionSet}
@@ -9,9 +9,6 @@ use Rattle.geography.proofs.Bitwise.{has_none}
 use Rattle.geography.specs.Links.{linked, Tied, Ends, no_edge}
 use Rattle.values.specs.Fold.{any}
 use Rattle.values.proofs.Backwards.{Turn}
-
-pub edge_more : (xs : List Edge) (i : ℕ) → i < length xs → drop i xs ≡ get_or xs i no_edge ∷ drop (i + 1) xs
-edge_more xs i h = drop_more xs i no_edge h
 
 -- the ends of the edge that a turn takes
 pub ends_at : {es : List Edge} {n : ℕ} {e : Edge} → Ends es → Turn es n e → (e.one < 128) × (e.two < 128)

@@ -1,6 +1,6 @@
--- A table by region, filled from the back of a list: its start, one element on, and a read. Assumes nothing.
-use Rattle.std.proofs.Common.{◌≡◌, ℕ, ◌+◌, ◌<◌, ◌≤◌, List, [], ◌∷◌, length, get_or, drop, set, replicate, sym, ap, ◌∙◌, ⊎_elim, subst}
-use Rattle.std.proofs.lemmas.List.{drop_more, drop_all, get_or-set_same, get_or-set_other, get_or-replicate}
+-- A table by region, filled from the back of a list: its start, one element more in front, and a read. Assumes nothing.
+use Rattle.std.proofs.Common.{◌≡◌, ℕ, ◌<◌, List, [], ◌∷◌, length, get_or, set, replicate, sym, ap, ◌∙◌, ⊎_elim}
+use Rattle.std.proofs.lemmas.List.{get_or-set_same, get_or-set_other, get_or-replicate}
 use Rattle.std.proofs.lemmas.Bool.{cases_eq}
 use Rattle.tables.specs.ByRegion.{ByRegion}
 
@@ -28,15 +28,3 @@ module _ {X B : Type 0} (none : B) (at : ℕ → List X → B) where
 
       other : (r ≡ k → ⊥) → get_or (set table k v) r none ≡ at r (x ∷ xs)
       other apart = get_or-set_other table k r v none apart ∙ kept r l ∙ sym (there r apart)
-
-  -- ---- the same, by the index of the element
-  pub region_start : (table : List B) (xs : List X) (i : ℕ) → ((r : ℕ) → at r [] ≡ none) → table ≡ replicate 256 none → length xs ≤ i → ByRegion none at table (drop i xs)
-  region_start table xs i nothing blank end = subst (λ ys. ByRegion none at table ys) (sym (drop_all i xs end)) (region_none table nothing blank)
-
-  pub region_skip : (table : List B) (xs : List X) (i : ℕ) (d : X) → i < length xs → ((r : ℕ) → at r (get_or xs i d ∷ drop (i + 1) xs) ≡ at r (drop (i + 1) xs)) →
-      ByRegion none at table (drop (i + 1) xs) → ByRegion none at table (drop i xs)
-  region_skip table xs i d h same kept = subst (λ ys. ByRegion none at table ys) (sym (drop_more xs i d h)) (region_same table (drop (i + 1) xs) (get_or xs i d) same kept)
-
-  pub region_write : (table : List B) (xs : List X) (i : ℕ) (d : X) (k : ℕ) (v : B) → i < length xs → k < length table → at k (get_or xs i d ∷ drop (i + 1) xs) ≡ v →
-      ((r : ℕ) → (r ≡ k → ⊥) → at r (get_or xs i d ∷ drop (i + 1) xs) ≡ at r (drop (i + 1) xs)) → ByRegion none at table (drop (i + 1) xs) → ByRegion none at (set table k v) (drop i xs)
-  region_write table xs i d k v h low here there kept = subst (λ ys. ByRegion none at (set table k v) ys) (sym (drop_more xs i d h)) (region_put table (drop (i + 1) xs) (get_or xs i d) k v low here there kept)

@@ -3,18 +3,12 @@ use Rattle.std.proofs.Common.{◌≡◌, ℕ, ◌<◌, ◌≤◌, true, false, c
 use Rattle.std.proofs.lemmas.List.{get_or-set_same, get_or-set_other, get_or-replicate, get_or_default}
 use Rattle.std.proofs.lemmas.Bool.{cases_Bool, eqb-true, and_parts, ne_eqb}
 use Rattle.values.specs.Fold.{gather, only}
-use Rattle.board.specs.declared.order.Order.TheVariants.{Hold}
 use Rattle.game.specs.declared.text.Text.{Text}
-use Rattle.game.specs.declared.text.Text.TheVariants.{Command}
 use Rattle.game.specs.declared.text.Written.{Written}
 use Rattle.game.specs.Texts.{addressed, written_for, text_for}
 use Rattle.texts.specs.declared.texts.Slot.{Slot}
 use Rattle.texts.specs.declared.texts.Slot.TheVariants.{Nothing, Once, Often}
 use Rattle.texts.specs.Slots.{note_in, noted, text_in, slot_of, Kept}
-
--- what a read past the end gives
-abbrev pub no_text : Written
-no_text = record { power = 0; region = 0; text = Command Hold }
 
 pub noted-only : (ts : List Text) → text_in (noted ts) ≡ only ts
 unfolding noted only
