@@ -21,11 +21,10 @@ fn answer_to(o: Order, success: bool) -> &'static [u8]
     ensures { result.now ≡ answer_to o success }
 {
     match o {
-        Order::Hold => b"",
-        Order::Move { .. } => yes_no(success),
-        Order::SupportHold { .. } => yes_no(success),
-        Order::SupportMove { .. } => yes_no(success),
-        Order::Convoy { .. } => b"",
+        Order::Move { .. } | Order::SupportHold { .. } | Order::SupportMove { .. } => {
+            yes_no(success)
+        }
+        Order::Hold | Order::Convoy { .. } => b"",
     }
 }
 

@@ -5,6 +5,7 @@ ghost use Rattle.show.specs.Refusal.{refusal_bytes};
 use super::words::push;
 use std::alloc::{AllocError, Global};
 
+// Its number as the files have it: the reasons themselves are those of crates that know of files and calls, which this one doesn't.
 pub fn push_refusal(
     heap: Global,
     out: &mut Vec<u8>,

@@ -34,13 +34,10 @@ impl<'a, N: Named> Printer<'a, N> {
     ) -> Result<(), AllocError>
         ensures { OnOk result (out.new.items ≡ out.old.items ++ went_line (N.named self.now.names.now) before after) }
     {
-        let Some(u) = before else {
-            return Ok(());
-        };
-        if of_same_power(u.power, after) {
-            return Ok(());
+        match before {
+            Some(u) if !of_same_power(u.power, after) => self.push_change(out, u, b"gone"),
+            _ => Ok(()),
         }
-        self.push_change(out, u, b"gone")
     }
 
     fn push_came(
@@ -51,13 +48,10 @@ impl<'a, N: Named> Printer<'a, N> {
     ) -> Result<(), AllocError>
         ensures { OnOk result (out.new.items ≡ out.old.items ++ came_line (N.named self.now.names.now) before after) }
     {
-        let Some(u) = after else {
-            return Ok(());
-        };
-        if of_same_power(u.power, before) {
-            return Ok(());
+        match after {
+            Some(u) if !of_same_power(u.power, before) => self.push_change(out, u, arm(u.fleet)),
+            _ => Ok(()),
         }
-        self.push_change(out, u, arm(u.fleet))
     }
 
     fn push_changes(
