@@ -1,21 +1,19 @@
-// A verdict on the words of files, as their refusal.
-ghost use Rattle.std.specs.Prelude.{◌≡◌, false};
-ghost use Rattle.calls.specs.Verdict.{is_accepted};
+// A refusal of words, as one of the files that they are made of.
+ghost use Rattle.std.specs.Prelude.{◌≡◌};
+ghost use Rattle.calls.specs.Verdict.{verdict_of};
 ghost use Rattle.session.specs.Session.{refusal};
 
-use calls::Verdict;
+use calls::Refusal as Refused;
 use text::{Reason, Refusal};
 
 // The words are refused as a whole, at no line.
-pub(super) fn whole(verdict: Verdict) -> Refusal
-    requires { is_accepted verdict ≡ false }
-    ensures { result ≡ refusal verdict }
+pub(super) fn whole(refused: Refused) -> Refusal
+    ensures { result ≡ refusal (verdict_of refused) }
 {
-    let reason = match verdict {
-        Verdict::Misfit => Reason::Misfit,
-        Verdict::BadText => Reason::BadText,
-        Verdict::Unlawful => Reason::Unlawful,
-        Verdict::Accepted => unreachable!(),
+    let reason = match refused {
+        Refused::Misfit => Reason::Misfit,
+        Refused::BadText => Reason::BadText,
+        Refused::Unlawful => Reason::Unlawful,
     };
     Refusal { reason, line: 0 }
 }
