@@ -69,11 +69,5 @@ pub fn run<F: FnOnce(Global, &[u8], &[u8], &[u8]) -> Result<Vec<u8>, AllocError>
     if args.next().is_some() {
         return Err(wanted());
     }
-    play(
-        rt,
-        board.as_str(),
-        game.as_str(),
-        orders.as_str(),
-        printed,
-    )
+    play(rt, board.as_str(), game.as_str(), orders.as_str(), printed)
 }

@@ -1,5 +1,5 @@
 -- What the programs print for the bytes of a board's, a game's and an orders' file. Assumes nothing.
-use Rattle.std.specs.Prelude.{ℕ, zero, suc, ◌+◌, ◌-◌, Bool, true, false, cond, List, [], ◌∷◌, ◌++◌, length, Some, None, Ok, Err, Option, Result, ◌==◌, nat_lt}
+use Rattle.std.specs.Prelude.{ℕ, zero, suc, ◌+◌, ◌-◌, Bool, true, false, cond, List, [], ◌∷◌, ◌++◌, length, Ok, Err, Result, ◌==◌, nat_lt}
 use Rattle.board.specs.Board.{Board}
 use Rattle.game.specs.declared.phase.Phase.{Phase}
 use Rattle.std.specs.Option.{unwrap_or}

@@ -17,7 +17,7 @@ fn begin(heap: Global, words: &[u32]) -> Result<Position, Fault>
 {
     match begin_from(heap, words) {
         Ok(position) => Ok(position),
-        Err(Unfit::Refused(refusal)) => Err(Fault::At(whole(refusal))),
+        Err(Unfit::Refused(refused)) => Err(Fault::At(whole(refused))),
         Err(Unfit::NoMemory) => Err(Fault::NoMemory),
     }
 }

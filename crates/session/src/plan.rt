@@ -71,7 +71,9 @@ fn turns_due<'a>(
     let mut phase = first;
     let mut waiting = blocks;
     for _ in 0..count {
-        if let [block, others @ ..] = waiting && is_due(first, phase, block) {
+        if let [block, others @ ..] = waiting
+            && is_due(first, phase, block)
+        {
             turns.push(block.words.as_slice())?;
             waiting = others;
         } else {

@@ -169,8 +169,8 @@ impl<'a> Playing<'a> {
                 self.play_phase(out, tells, &texts)?;
                 Ok(true)
             }
-            Err(Fault::Refused(refusal)) => {
-                self.refuse(out, whole(refusal))?;
+            Err(Fault::Refused(refused)) => {
+                self.refuse(out, whole(refused))?;
                 Ok(false)
             }
             Err(Fault::NoMemory) => Err(AllocError),

@@ -15,10 +15,7 @@ pub(super) fn part_length(bytes: &[u8], sep: u8) -> usize
     ensures value { result ≡ part_length sep bytes.now }
     ensures upper_bound { result ≤ length bytes.now }
 {
-    bytes
-        .iter()
-        .position(|b| *b == sep)
-        .unwrap_or(bytes.len())
+    bytes.iter().position(|b| *b == sep).unwrap_or(bytes.len())
 }
 
 // A text that is too long is refused before a line of it is read.

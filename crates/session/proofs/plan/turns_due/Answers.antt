@@ -1,4 +1,4 @@
-use Rattle.std.proofs.Common.{◌≡◌, ℕ, suc, ◌+◌, ◌-◌, List, [], ◌∷◌, ◌++◌, drop, vec_items, sym, ap, ◌∙◌, arith, Bor}
+use Rattle.std.proofs.Common.{◌≡◌, ℕ, suc, ◌+◌, ◌-◌, List, [], ◌∷◌, ◌++◌, vec_items, sym, ap, ◌∙◌, arith, Bor}
 use Rattle.std.proofs.lemmas.List.{map_push, take_rest}
 use Rattle.text.specs.declared.orders_file.Block.{Block}
 use Rattle.session.specs.Session.{turns_due}

@@ -1,4 +1,4 @@
-use Rattle.std.proofs.Common.{◌++◌, List, ℕ, drop, vec_items, ◌+◌, sym, ◌∙◌, arith}
+use Rattle.std.proofs.Common.{◌++◌, drop, vec_items, ◌+◌, sym, ◌∙◌, arith}
 use Rattle.position.specs.Position.{board_of, game_of}
 use Rattle.session.specs.Session.{run_bytes}
 use Rattle.session.specs.Tables.{place_names, turns_in}

@@ -1,4 +1,4 @@
-use Rattle.std.proofs.Common.{◌≡◌, ℕ, false, true, List, [], ◌∷◌, ◌++◌, cond, map, length, is_some, Some, sym, ap, ◌∙◌, Bor, arith, rules}
+use Rattle.std.proofs.Common.{◌≡◌, ℕ, List, [], ◌∷◌, ◌++◌, cond, map, length, is_some, Some, sym, ap, ◌∙◌, rules}
 use Rattle.std.specs.HashMap.{get}
 use Rattle.std.specs.Str.{bytes_eq}
 use Rattle.std.proofs.lemmas.List.{map_push, length-map}
@@ -24,7 +24,8 @@ invariant_of-self-2 c =
             (λ i. cond (bytes_eq name.now word.now) (Some (here i)) (was word i)) ∙ new_placed (names c) name.now word.now (sym known ∙ w.if-not-contains_key.true) ∙ sym (ap (λ ns. place ns word.now) one_more)
         | else-not-contains_key w ↦
             ap (λ s. get (λ x y. bytes_eq x.now y.now) s.1.1.0 word) w.self-is ∙ was word ∙ old_placed (names c) name.now word.now (sym known ∙ w.if-not-contains_key.false) ∙ sym (ap (λ ns. place ns word.now) one_more)
-      ] }
+      ];
+    }
 
 pub returns : goal.returns
 returns c = search (rules, map_push)
