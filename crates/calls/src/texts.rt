@@ -50,14 +50,16 @@ impl Reader<5> for Texts {
     fn read(&self, words: [u32; 5]) -> Option<Written>
         ensures { result ≡ read_if (good_text self.now.regions words) (written_in words) }
     {
-        let [power, region, kind, a, b] = words;
-        if power >= 7 || region >= self.regions as u32 || a >= 128 || b >= 128 {
+        let [power, region, kind, a, b] = words.as_slice() else {
+            return None;
+        };
+        if *power >= 7 || *region >= self.regions as u32 || *a >= 128 || *b >= 128 {
             return None;
         }
-        let text = text_of(kind, a as u8, b as u8)?;
+        let text = text_of(*kind, *a as u8, *b as u8)?;
         Some(Written {
-            power: power as u8,
-            region: region as u8,
+            power: *power as u8,
+            region: *region as u8,
             text,
         })
     }

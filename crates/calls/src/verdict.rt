@@ -2,6 +2,7 @@
 ghost use Rattle.std.specs.Prelude.{◌≡◌};
 ghost use Rattle.calls.specs.Verdict.{number, is_accepted, verdict_of};
 
+// No `Result`: a call is answered by one of four numbers, and that of an acceptance is printed like the others.
 #[derive(Clone, Copy, PartialEq, Eq)]
 pub enum Verdict {
     Accepted,

@@ -11,7 +11,7 @@ fn grown(n: u32, digit: u8) -> u32
     n.saturating_mul(10).saturating_add(u32::from(digit))
 }
 
-// What a byte does to a number that may have begun.
+// What a byte does to a number that may have begun: three ways on, so no `Option`.
 #[derive(Clone, Copy)]
 enum Step {
     Grows(u32),

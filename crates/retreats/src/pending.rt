@@ -31,17 +31,17 @@ impl Pending<'_> {
         self.atlas.steps(d.unit, to) && !self.closed.contains(to) && d.from != Some(to)
     }
 
-    // Only a step by land or sea is a retreat; every other order, or none, is none.
+    // Only a step by land or sea is a retreat; every other order, or none, is none. Each case is written out, as the rules do.
     fn retreat_of(&self, d: Dislodged) -> Option<u8>
         requires { d.unit.power < 7 }
         ensures { (g : Game) → Closed self.now.closed g → result ≡ retreat_of (board_of self.now.atlas.now) g self.now.texts.now.list.items d }
     {
         match order_for(self.texts, d.unit) {
-            Order::Move {
-                to,
-                convoyed: false,
-            } => self.may_retreat(d, to).then_some(to),
-            _ => None,
+            Order::Hold => None,
+            Order::Move { to, convoyed } => (!convoyed && self.may_retreat(d, to)).then_some(to),
+            Order::SupportHold { .. } => None,
+            Order::SupportMove { .. } => None,
+            Order::Convoy { .. } => None,
         }
     }
 

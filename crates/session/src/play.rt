@@ -129,7 +129,7 @@ impl<'a> Playing<'a> {
         push_after(&self.printer(), out, texts.list.as_slice(), &reports)
     }
 
-    // A phase played, and the next game; with the lines that tell of it, if wanted.
+    // A phase played, and the next game; with the lines that tell of it, if the program prints them.
     fn play_phase(
         &mut self,
         out: &mut Vec<u8>,

@@ -77,6 +77,7 @@ impl<'a, N: Named> Printer<'a, N> {
         push(out, b"\n")
     }
 
+    // Like `push_units` but for the line: one for both would only hand the table on.
     fn push_outs(&self, out: &mut Vec<u8>, dislodged: &[Dislodged]) -> Result<(), AllocError>
         ensures { OnOk result (out.new.items ≡ out.old.items ++ out_lines (N.named self.now.names.now) self.now.regions dislodged.now) }
     {

@@ -26,6 +26,7 @@ impl<'a, N: Named> Printer<'a, N> {
         push(out, b"\n")
     }
 
+    // This and the next are two lines of the format, each with its own word: one for both would take what tells them apart.
     fn push_went(
         &self,
         out: &mut Vec<u8>,

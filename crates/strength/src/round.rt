@@ -56,7 +56,7 @@ impl<'a> Round<'a> {
         )
     }
 
-    // How much the move in place `i` keeps others out of the region that it goes to.
+    // How much the move in place `i` keeps others out of the region that it goes to. Like `attack` but for the rule that it asks.
     pub fn prevent(self, i: usize) -> Span
         requires place { i < length self.orders.list.now }
         ensures { result ≡ prevent (board_of self.entry.atlas.now) (slice_index_or self.entry.orders.list.now i nobody) self.entry.orders.list.now }

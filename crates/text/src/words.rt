@@ -30,6 +30,7 @@ fn one_of(first: u8, last: u8, word: &[u8]) -> Option<u32>
     }
 }
 
+// Compared in turn: a match on byte strings leaves a goal open for each byte.
 #[tactic(auto, unfolding(crate::specs::Words::kind))]
 fn kind_of(word: &[u8]) -> Option<u32>
     ensures { result ≡ kind word.now }
@@ -116,6 +117,7 @@ impl<'a> Words<'a> {
         Refusal::unreadable(self.line)
     }
 
+    // This and the next three read one word each: one over a closure would repeat their clauses.
     pub(super) fn power(&mut self) -> Result<u32, Refusal>
         ensures value { Reads (λ x. x) (power (front (left self.old))) self.old.line result }
         ensures small { IfOk result (λ x. x < 256) }

@@ -8,7 +8,7 @@ use board::Order;
 use game::{Text, Written};
 use std::alloc::{AllocError, Global};
 
-// What one power wrote for one region.
+// What one power wrote for one region: three states, since an `Option` would not tell none from too many.
 #[derive(Clone, Copy)]
 pub enum Slot {
     Nothing,

@@ -7,7 +7,7 @@ ghost use Rattle.board.specs.Board.{stands, can_stand, region_at};
 ghost use Rattle.board.specs.Atlas.{board_of};
 ghost use Rattle.game.specs.Texts.{text_for};
 ghost use Rattle.game.specs.Retreats.{is_just, occupied};
-ghost use Rattle.game.specs.Winter.{of_power, units_of, centres_of, has_unit, struck, disband_order, disbanded, build_in, may_build, built, winter_of};
+ghost use Rattle.game.specs.Winter.{of_power, units_of, centres_of, has_unit, struck, is_disband, disband_order, disbanded, build_in, may_build, built, winter_of};
 
 use board::{Atlas, Unit};
 use game::Text;
@@ -15,13 +15,27 @@ use geography::RegionSet;
 use std::alloc::{AllocError, Global};
 use texts::Texts;
 
-// What a text asks to build: a fleet, or else an army.
+// What a text asks to build: a fleet, or else an army. Each case is written out, as the rules do.
 fn build_in(text: Option<Text>) -> Option<bool>
     ensures { result ≡ build_in text }
 {
     match text {
+        None => None,
+        Some(Text::Command(_)) => None,
         Some(Text::Build { fleet }) => Some(fleet),
-        _ => None,
+        Some(Text::Disband) => None,
+    }
+}
+
+// The club: struck, `gone`.
+fn is_disband(text: Option<Text>) -> bool
+    ensures { result ≡ is_disband text }
+{
+    match text {
+        None => false,
+        Some(Text::Command(_)) => false,
+        Some(Text::Build { .. }) => false,
+        Some(Text::Disband) => true,
     }
 }
 
@@ -69,11 +83,10 @@ impl Adjustment<'_> {
         held
     }
 
-    // The club: struck, `gone`.
     fn strikes(&self, r: u8) -> bool
         ensures { result ≡ struck self.now.power self.now.texts.now.list.items r }
     {
-        matches!(self.texts.text_for(self.power, r), Some(Text::Disband))
+        is_disband(self.texts.text_for(self.power, r))
     }
 
     // Who goes: first those struck, then the others, the lower regions first.

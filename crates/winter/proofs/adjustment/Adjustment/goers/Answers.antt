@@ -12,6 +12,26 @@ use Rattle.winter.proofs.Choosing.{in_more, turn_of, end_of}
 use Rattle.winter.proofs.Wintertime.{order_is, order_below}
 use Rattle.winter.proofs.adjustment.Adjustment.goers.Goals as goal
 
+pub returns : goal.returns
+returns c = λ q.
+    let s = c.args.self.now in
+    let m = board_of s.atlas.now in
+    let n = length m.regions in
+    let ws = vec_items s.texts.now.list in
+    let held = c.held-held.result in
+    let first = λ (r : ℕ). has held r && struck s.power ws r in
+    let others = λ (r : ℕ). has held r && not (struck s.power ws r) in
+    let end =
+    end_of c.loop-r.yielded _ c.loop-r.yielded_by _ _ c.in-None.is c.next.ensures.steps
+    (YieldsList-at c.into_iter-r-iterator.ensures.into_iter_gives
+    (YieldsList-from_take c.args.most
+    (YieldsList-at c.take-r-items.ensures.source
+    (YieldsList-from_chain
+    (YieldsList-at c.chain.ensures.first (YieldsList-from_filter _ first (YieldsList-from_range 0 c.len-n.result n (cc) (omega (arith, s.atlas.now.regions.ok.0))) c.filter-struck.ensures.closure (λ x b q k. search (rules, tests))))
+    (YieldsList-at c.chain.ensures.second (YieldsList-from_filter _ others (YieldsList-from_range 0 c.len-n.result n (cc) (omega (arith, s.atlas.now.regions.ok.0))) c.filter-others.ensures.closure (λ x b q k. search (rules, tests)))) c.chain.ensures.first_done
+    c.chain.ensures.second_done)) c.take-r-items.ensures.count)) in
+    c.loop-r.invariant q ∙ ap (is_in q) (sym (map-id c.loop-r.yielded) ∙ end.0 ∙ ap (take c.args.most) (order_is m s.power ws s.units.now held c.held-held.ensures))
+
 pub loop-r-init : goal.loop-r-init
 unfolding any
 loop-r-init c = has_none
@@ -44,23 +64,3 @@ insert-requires c =
 pub loop-r-preserved : goal.loop-r-preserved
 loop-r-preserved c = λ q.
     c.insert.ensures q ∙ ap (λ b. eqb q c.in-Some.r || b) (c.loop-r.invariant q) ∙ sym (in_more q c.loop-r.yielded c.in-Some.r)
-
-pub returns : goal.returns
-returns c = λ q.
-    let s = c.args.self.now in
-    let m = board_of s.atlas.now in
-    let n = length m.regions in
-    let ws = vec_items s.texts.now.list in
-    let held = c.held-held.result in
-    let first = λ (r : ℕ). has held r && struck s.power ws r in
-    let others = λ (r : ℕ). has held r && not (struck s.power ws r) in
-    let end =
-    end_of c.loop-r.yielded _ c.loop-r.yielded_by _ _ c.in-None.is c.next.ensures.steps
-    (YieldsList-at c.into_iter-r-iterator.ensures.into_iter_gives
-    (YieldsList-from_take c.args.most
-    (YieldsList-at c.take-r-items.ensures.source
-    (YieldsList-from_chain
-    (YieldsList-at c.chain.ensures.first (YieldsList-from_filter _ first (YieldsList-from_range 0 c.len-n.result n (cc) (omega (arith, s.atlas.now.regions.ok.0))) c.filter-struck.ensures.closure (λ x b q k. search (rules, tests))))
-    (YieldsList-at c.chain.ensures.second (YieldsList-from_filter _ others (YieldsList-from_range 0 c.len-n.result n (cc) (omega (arith, s.atlas.now.regions.ok.0))) c.filter-others.ensures.closure (λ x b q k. search (rules, tests)))) c.chain.ensures.first_done
-    c.chain.ensures.second_done)) c.take-r-items.ensures.count)) in
-    c.loop-r.invariant q ∙ ap (is_in q) (sym (map-id c.loop-r.yielded) ∙ end.0 ∙ ap (take c.args.most) (order_is m s.power ws s.units.now held c.held-held.ensures))
