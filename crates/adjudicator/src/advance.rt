@@ -49,7 +49,8 @@ fn settle(p: &mut Position, units: Vec<Unit>, owners: Option<Vec<Option<u8>>>)
     p.phase = p.phase.next();
 }
 
-// The next game, and after moves what is told of them; without memory nothing changes.
+// The next game, and after moves what is told of them; without memory nothing changes. The position is lent here to be changed,
+// and in the functions below to be read, so that it makes no struct with the texts.
 pub fn advance(
     heap: Global,
     p: &mut Position,

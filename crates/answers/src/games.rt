@@ -17,7 +17,7 @@ fn push_owners(out: &mut Vec<usize>, owners: &[Option<u8>]) -> Result<(), AllocE
     out.extend(owners.iter().map(|owner| one_more(*owner)))
 }
 
-// The regions of a set, ascending.
+// The regions of a set, ascending. Their number is a `usize`, as that of any list: what is asked of it makes each a byte.
 fn regions_in(heap: Global, n: usize, set: RegionSet) -> Result<Vec<usize>, AllocError>
     requires { n ≤ 256 }
     ensures { IfOk result (λ v. v.items ≡ those n (has set)) }

@@ -20,6 +20,7 @@ pub fn close_one(x: Resolution) -> Resolution
     Resolution { value, ..x }
 }
 
+// Each of the three that fill a list lent to them asks for room in it: `Slate`, which lends it, keeps the room as a fact.
 pub fn close_into(xs: &[Resolution], out: &mut Vec<Resolution>)
     requires few { length xs.now ≤ 128 }
     requires room { 128 ≤ vec_capacity out.old }

@@ -29,7 +29,8 @@ pub fn with_units(atlas: &Atlas, units: &[Unit], start: RegionSet) -> RegionSet
     taken
 }
 
-// Where each of those dislodged retreats to, if it does.
+// Where each of those dislodged retreats to, if it does. It takes the parts of a position, whose invariant says what is asked of
+// them: a type of their own would be made of them here and be taken apart in the next line.
 pub fn retreat_goals(
     heap: Global,
     atlas: &Atlas,

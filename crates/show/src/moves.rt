@@ -107,7 +107,7 @@ impl<'a, N: Named> Printer<'a, N> {
         }
     }
 
-    // The reports of a phase of moves for which `texts` were written.
+    // The reports of a phase of moves for which `texts` were written: two lists, so two tables by region.
     pub fn push_moves(
         &self,
         out: &mut Vec<u8>,

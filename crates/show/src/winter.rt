@@ -67,7 +67,7 @@ impl<'a, N: Named> Printer<'a, N> {
         self.push_came(out, before, after)
     }
 
-    // The units before and after a winter.
+    // The units before and after a winter: two lists, so two tables by region.
     pub fn push_winter(
         &self,
         out: &mut Vec<u8>,

@@ -34,7 +34,7 @@ pub struct Round<'a> {
 }
 
 impl<'a> Round<'a> {
-    // The path of the unit in place `i`.
+    // The path of the unit in place `i`. Each method asks of its own `i` that there is such a place: no fact about the round.
     pub fn path_at(self, i: usize) -> Tri
         requires place { i < length self.orders.list.now }
         ensures { result ≡ path (board_of self.entry.atlas.now) (slice_index_or self.entry.orders.list.now i nobody) self.entry.orders.list.now }

@@ -32,7 +32,7 @@ pub(super) enum BoardLine<'a> {
     },
 }
 
-// Regions as three words each, edges as two, in the order of their lines.
+// Regions as three words each, edges as two, in the order of their lines: flat, as the words of a call are.
 #[derive(Drop)]
 pub struct BoardFile<'a> {
     pub names: Names<'a>,

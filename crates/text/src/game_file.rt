@@ -36,7 +36,7 @@ pub(super) enum GameLine {
     },
 }
 
-// Units as three words each, those dislodged as four, owners as one for each region.
+// Units as three words each, those dislodged as four, owners as one for each region: flat, as the words of a call are.
 #[derive(Drop)]
 pub struct GameFile {
     pub phase: Option<u32>,
