@@ -25,6 +25,15 @@ pub fn cuts(x: Resolution, y: Resolution) -> bool
     y.order.goes_to(x.unit.region) && x.unit.power != y.unit.power && y.unit.region != x.order.aim()
 }
 
+// The path of the unit in place `i`, from the table of a round. No method of `Round`, since it asks for no tables of the orders.
+pub fn path_at(atlas: &Atlas, paths: &[Tri], i: usize, xs: &[Resolution]) -> Tri
+    requires paths { paths.now ≡ paths_of (board_of atlas.now) xs.now }
+    requires place { i < length xs.now }
+    ensures { result ≡ path (board_of atlas.now) (slice_index_or xs.now i nobody) xs.now }
+{
+    paths[i]
+}
+
 #[derive(Clone, Copy)]
 pub struct Round<'a> {
     pub atlas: &'a Atlas,
@@ -34,15 +43,8 @@ pub struct Round<'a> {
 }
 
 impl<'a> Round<'a> {
-    // The path of the unit in place `i`. Each method asks of its own `i` that there is such a place: no fact about the round.
-    pub fn path_at(self, i: usize) -> Tri
-        requires place { i < length self.orders.list.now }
-        ensures { result ≡ path (board_of self.entry.atlas.now) (slice_index_or self.entry.orders.list.now i nobody) self.entry.orders.list.now }
-    {
-        self.paths[i]
-    }
-
-    // The attack of the unit in place `i`, whose order is a move.
+    // The attack of the unit in place `i`, whose order is a move. Each method asks of its own `i` that there is such a place: no fact
+    // about the round.
     pub fn attack(self, i: usize) -> Span
         requires place { i < length self.orders.list.now }
         ensures { result ≡ attack (board_of self.entry.atlas.now) (slice_index_or self.entry.orders.list.now i nobody) self.entry.orders.list.now }
@@ -50,7 +52,7 @@ impl<'a> Round<'a> {
         let x = self.orders.list[i];
         let there = self.orders.who(x.order.aim());
         Span::either(
-            self.path_at(i),
+            path_at(self.atlas, self.paths, i, self.orders.list),
             attack_on(self.orders, x, there),
             Span::exactly(0),
         )
@@ -64,7 +66,7 @@ impl<'a> Round<'a> {
         let x = self.orders.list[i];
         let there = self.orders.who(x.order.aim());
         Span::either(
-            self.path_at(i),
+            path_at(self.atlas, self.paths, i, self.orders.list),
             prevent_of(self.orders, x, there),
             Span::exactly(0),
         )
