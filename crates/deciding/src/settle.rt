@@ -17,7 +17,8 @@ impl Slate {
         self.decide_all(atlas);
         let orders = Orders::new(&self.lookup, self.orders.as_slice());
         paths_into(atlas, orders, &mut self.dislodged, &mut self.paths);
-        let (xs, paths) = (self.orders.as_slice(), self.paths.as_slice());
+        let xs = self.orders.as_slice();
+        let paths = self.paths.as_slice();
         if !paradox(atlas, paths, xs) {
             return;
         }
