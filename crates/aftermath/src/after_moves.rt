@@ -12,7 +12,7 @@ use board::{Atlas, Order, Unit};
 use geography::RegionSet;
 use values::Tri;
 
-// The move that came into a region.
+// The move that came into a region: named cases, since an `Option` in the table's `Option` would not say which none is over water.
 #[derive(Clone, Copy)]
 pub enum Arrival {
     From(u8),
