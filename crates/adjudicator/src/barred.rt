@@ -6,7 +6,7 @@ ghost use Rattle.position.specs.Position.{game_of};
 use geography::RegionSet;
 use position::Position;
 
-// Just those of the board.
+// Just those of the board: a loop over numbers of regions, since a set is no list.
 pub fn barred_regions(p: &Position) -> RegionSet
     ensures { Holds result (game_of p.now).barred }
 {

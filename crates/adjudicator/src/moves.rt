@@ -5,7 +5,7 @@ ghost use Rattle.position.specs.Position.{board_of, game_of};
 ghost use Rattle.deciding_laws.specs.Promises.{DecidingPromises};
 ghost use Rattle.adjudicator.specs.Moved.{MovedBy, SameOutcome};
 
-use aftermath::{arrivals, contested, displaced, standing};
+use aftermath::{Arrivals, contested};
 use board::Unit;
 use deciding::{Report, adjudicate};
 use game::Dislodged;
@@ -29,14 +29,15 @@ pub fn play_moves(heap: Global, p: &Position, texts: &Texts) -> Result<Moved, Al
 {
     let fresh = fresh(heap, &p.atlas, texts, p.units.as_slice())?;
     let done = adjudicate(heap, &p.atlas, fresh)?;
-    let table = arrivals(heap, done.outcome.as_slice())?;
-    let units = standing(heap, table.as_slice(), done.outcome.as_slice())?;
-    let dislodged = displaced(heap, table.as_slice(), done.outcome.as_slice())?;
+    let reports = done.reports;
+    let arrivals = Arrivals::of(heap, done.outcome.as_slice())?;
+    let units = arrivals.standing(heap)?;
+    let dislodged = arrivals.displaced(heap)?;
     let barred = contested(&p.atlas, done.outcome.as_slice(), done.paths.as_slice());
     Ok(Moved {
         units,
         dislodged,
         barred,
-        reports: done.reports,
+        reports,
     })
 }

@@ -1,5 +1,6 @@
 -- For each region who came into it. Assumes nothing.
 use Rattle.std.specs.Prelude.{ℕ, Bool, cond, ◌&&◌, List, map, Some, None, Option}
+use Rattle.std.proofs.Props.{props}
 use Rattle.values.specs.Fold.{gather}
 use Rattle.values.specs.Tri.{is_yes, is_no}
 use Rattle.values.specs.declared.tri.Tri.{Tri}
@@ -25,6 +26,11 @@ origin OverWater = None
 
 abbrev pub Arrived : List (Option Arrival) → List Resolution → Type 0
 Arrived table xs = ByRegion None arrival_in table xs
+
+-- in one way at most
+pub Arrived-prop : (table : List (Option Arrival)) (xs : List Resolution) → IsProp (Arrived table xs)
+unfolding ByRegion
+Arrived-prop table xs = hlevel props
 
 -- a move that succeeded
 abbrev pub succeeded : Resolution → Bool

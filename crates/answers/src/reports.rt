@@ -6,7 +6,7 @@ use super::ordered::push_in_order;
 use deciding::Report;
 use std::alloc::{AllocError, Global};
 
-// On a board of `n` regions.
+// On a board of `n` regions: up to 256, as it was promised, so no byte.
 pub fn last_words(heap: Global, n: usize, reports: &[Report]) -> Result<Vec<usize>, AllocError>
     requires { n ≤ 256 }
     ensures { IfOk result (λ v. v.items ≡ last_words n reports.now) }

@@ -16,6 +16,7 @@ impl Atlas {
         (r as usize) < self.regions.len()
     }
 
+    // This and the next are two tests of the rules, each with its name.
     pub fn coastal(&self, r: u8) -> bool
         ensures { result ≡ coastal (board_of self.now) r }
     {

@@ -62,7 +62,7 @@ impl Reader<3> for Regions {
     }
 }
 
-// The edges of a board of so many regions.
+// The edges of a board of so many regions. Each kind of entry has a reader of its own, so that a call names what it reads.
 #[derive(Clone, Copy)]
 struct Edges {
     regions: u8,

@@ -1,4 +1,4 @@
-// Why a call came to nothing: a refusal, or want of memory.
+// Why a call came to nothing: a refusal, or want of memory. The one of files is another: the two crates share none that knows of either.
 ghost use Rattle.std.specs.Prelude.{◌≡◌};
 ghost use Rattle.calls.specs.declared.fault.Fault.TheVariants.{Refused, NoMemory};
 

@@ -50,6 +50,7 @@ impl Reader<5> for Texts {
     fn read(&self, words: [u32; 5]) -> Option<Written>
         ensures { result ≡ read_if (good_text self.now.regions words) (written_in words) }
     {
+        // A slice pattern, as docs/DECISIONS.md has it for the words of a text.
         let [power, region, kind, a, b] = words.as_slice() else {
             return None;
         };

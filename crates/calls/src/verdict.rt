@@ -15,6 +15,7 @@ pub enum Verdict {
 }
 
 impl Verdict {
+    // A method and no `From`: the definition that its contract cites has this name.
     pub fn number(self) -> u8
         ensures { result ≡ number self }
     {
@@ -33,7 +34,7 @@ impl Verdict {
     }
 }
 
-// Why words were not accepted.
+// Why words were not accepted: apart from `Verdict`, so that a fault can't hold an acceptance.
 #[derive(Clone, Copy, Debug, PartialEq, Eq)]
 pub enum Refusal {
     Misfit,

@@ -4,11 +4,12 @@ ghost use Rattle.values.specs.declared.tri.Tri.TheVariants.{Open};
 ghost use Rattle.values.specs.Tri.{is_open};
 ghost use Rattle.board.specs.Order.{is_move, is_support};
 ghost use Rattle.board.specs.Atlas.{board_of};
+ghost use Rattle.paths.specs.Paths.{paths_of};
 ghost use Rattle.deciding.specs.Outcome.{paradox, strand};
 
 use assignment::Resolution;
+use board::Atlas;
 use paths::refill;
-use strength::Round;
 use values::Tri;
 
 // Whether a unit with this path moves, and its path is open.
@@ -25,10 +26,12 @@ pub fn unsettled(x: &Resolution, path: Tri) -> bool
     x.order.is_support() && x.value.is_open() || adrift(x, path)
 }
 
-pub fn paradox(known: Round) -> bool
-    ensures { result ≡ paradox (board_of known.entry.atlas.now) known.entry.orders.list.now }
+// This and `strand_into` take no `Round`, since they ask for no tables of the orders.
+pub fn paradox(atlas: &Atlas, paths: &[Tri], xs: &[Resolution]) -> bool
+    requires paths { paths.now ≡ paths_of (board_of atlas.now) xs.now }
+    ensures { result ≡ paradox (board_of atlas.now) xs.now }
 {
-    let mut units = known.orders.list.iter().zip(known.paths);
+    let mut units = xs.iter().zip(paths);
     units.any(|(x, path)| unsettled(x, *path))
 }
 
@@ -44,12 +47,14 @@ pub fn strand_one(x: &Resolution, path: Tri) -> Resolution
 }
 
 // Every move whose path is open loses it, and everything is open again.
-pub fn strand_into(known: Round, out: &mut Vec<Resolution>)
+pub fn strand_into(atlas: &Atlas, paths: &[Tri], xs: &[Resolution], out: &mut Vec<Resolution>)
+    requires few { length xs.now ≤ 128 }
+    requires paths { paths.now ≡ paths_of (board_of atlas.now) xs.now }
     requires room { 128 ≤ vec_capacity out.old }
-    ensures items { out.new.items ≡ strand (board_of known.entry.atlas.now) known.entry.orders.list.now }
-    ensures len { vec_len out.new ≡ length known.entry.orders.list.now }
+    ensures items { out.new.items ≡ strand (board_of atlas.now) xs.now }
+    ensures len { vec_len out.new ≡ length xs.now }
     ensures cap { vec_capacity out.new ≡ vec_capacity out.old }
 {
-    let units = known.orders.list.iter().zip(known.paths);
+    let units = xs.iter().zip(paths);
     refill(out, units.map(|(x, path)| strand_one(x, *path)));
 }

@@ -33,6 +33,7 @@ pub fn round_into(known: Round, out: &mut Vec<Resolution>) -> bool
     ensures len { vec_len out.new ≡ length known.entry.orders.list.now }
     ensures cap { vec_capacity out.new ≡ vec_capacity out.old }
 {
+    // No `refill`: whether something changed is found on the way.
     let mut changed = false;
     out.clear();
     for (i, x) in known.orders.list.iter().enumerate() {

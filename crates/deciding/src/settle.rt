@@ -4,7 +4,6 @@ ghost use Rattle.board.specs.Atlas.{board_of};
 ghost use Rattle.deciding.specs.Outcome.{settle};
 
 use super::paradox::{paradox, strand_into};
-use super::rounds::known;
 use super::slate::Slate;
 use assignment::Orders;
 use board::Atlas;
@@ -18,11 +17,12 @@ impl Slate {
         self.decide_all(atlas);
         let orders = Orders::new(&self.lookup, self.orders.as_slice());
         paths_into(atlas, orders, &mut self.dislodged, &mut self.paths);
-        let known = known(atlas, orders, self.paths.as_slice());
-        if !paradox(known) {
+        let xs = self.orders.as_slice();
+        let paths = self.paths.as_slice();
+        if !paradox(atlas, paths, xs) {
             return;
         }
-        strand_into(known, &mut self.spare);
+        strand_into(atlas, paths, xs, &mut self.spare);
         swap(&mut self.orders, &mut self.spare);
         self.decide_all(atlas);
     }

@@ -26,7 +26,7 @@ pub struct Slate {
 }
 
 impl Slate {
-    pub(super) fn new(heap: Global, fresh: Vec<Resolution>) -> Result<Slate, AllocError>
+    pub fn new(heap: Global, fresh: Vec<Resolution>) -> Result<Slate, AllocError>
         requires few { vec_len fresh ≤ 128 }
         requires inside { Inside fresh.items }
         ensures { IfOk result (λ s. s.orders.items ≡ fresh.items) }

@@ -7,11 +7,11 @@ use board::Unit;
 
 #[derive(Clone, Copy, Debug, PartialEq, Eq)]
 pub enum Phase {
-    SpringMoves,
-    SpringRetreats,
-    AutumnMoves,
-    AutumnRetreats,
-    Winter,
+    SpringMoves = 0,
+    SpringRetreats = 1,
+    AutumnMoves = 2,
+    AutumnRetreats = 3,
+    Winter = 4,
 }
 
 // A number that is no phase's.
@@ -48,13 +48,7 @@ impl From<Phase> for u8 {
     ghost from_gives = { λ phase number. number ≡ phase_number phase };
 
     fn from(phase: Phase) -> u8 {
-        match phase {
-            Phase::SpringMoves => 0,
-            Phase::SpringRetreats => 1,
-            Phase::AutumnMoves => 2,
-            Phase::AutumnRetreats => 3,
-            Phase::Winter => 4,
-        }
+        phase as u8
     }
 }
 

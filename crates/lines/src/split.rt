@@ -3,7 +3,7 @@ ghost use Rattle.std.specs.Prelude.{length};
 ghost use Rattle.std.specs.Iterator.{at_most, YieldsFirstRef};
 ghost use Rattle.lines.specs.Split.{lines_of};
 
-// The lines that are left.
+// The lines that are left: no numbers and no limit, which the lines of files have in their invariant.
 #[derive(Drop)]
 pub struct Lines<'a> {
     pub rest: &'a [u8],

@@ -8,6 +8,7 @@ use assignment::Resolution;
 use board::Atlas;
 use values::Tri;
 
+// Whether each is dislodged stands beside the list, since one table of it serves all paths of a round.
 #[derive(Clone, Copy)]
 pub struct Water<'a> {
     pub atlas: &'a Atlas,

@@ -9,7 +9,7 @@ use game::Phase;
 use std::alloc::{AllocError, Global};
 use text::Block;
 
-// After winter comes spring. It counts in the numbers of phase lines, which may be any words of a call.
+// After winter comes spring. Phases are numbers here, as `distance` reckons with them: with `Phase` each step would turn it into one.
 fn next(phase: u32) -> u32
     ensures { result ≡ next_number phase }
 {

@@ -129,7 +129,7 @@ impl<'a> Playing<'a> {
         push_after(&self.printer(), out, texts.list.as_slice(), &reports)
     }
 
-    // A phase played, and the next game; with the lines that tell of it, if the program prints them.
+    // A phase played, and the next game; with the lines that tell of it, if the program prints them: data, as `run_bytes` has it.
     fn play_phase(
         &mut self,
         out: &mut Vec<u8>,
@@ -184,7 +184,8 @@ impl<'a> Playing<'a> {
         tells: bool,
         turns: &[&[u32]],
     ) -> Result<(), AllocError>
-        ensures { OnOk result (out.new.items ≡ out.old.items ++ run_bytes tells (place_names self.old.places) (board_of self.old.position) (game_of self.old.position) (turns_in turns.now)) }
+        ensures places { self.new.places ≡ self.old.places }
+        ensures bytes { OnOk result (out.new.items ≡ out.old.items ++ run_bytes tells (place_names self.old.places) (board_of self.old.position) (game_of self.old.position) (turns_in turns.now)) }
     {
         for words in turns {
             if !self.play_words(out, tells, words)? {

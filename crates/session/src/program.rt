@@ -1,4 +1,5 @@
-// The three programs, by how many phases each plays and what it prints of them.
+// The three programs, by how many phases each plays and what it prints of them: an enum and no closures, since one definition,
+// `program_bytes`, speaks of all three.
 
 #[derive(Clone, Copy)]
 pub enum Program {

@@ -6,7 +6,7 @@ ghost use Rattle.session.specs.Session.{refusal};
 use calls::Refusal as Refused;
 use text::{Reason, Refusal};
 
-// The words are refused as a whole, at no line.
+// The words are refused as a whole, at no line. No `From`, since neither type is of this crate.
 pub(super) fn whole(refused: Refused) -> Refusal
     ensures { result ≡ refusal (verdict_of refused) }
 {

@@ -119,6 +119,7 @@ impl<'a, N: Named> Printer<'a, N> {
         self.push_each(out, |out, r| self.push_owner(out, r, owner_of(owners, r)))
     }
 
+    // A game's parts and no `Position`, which stands in a crate above this one.
     pub fn push_game(
         &self,
         out: &mut Vec<u8>,

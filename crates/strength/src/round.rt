@@ -1,5 +1,6 @@
 // All that one round knows: the map, the orders, and how far each unit has a path. One move or support decided by all the others.
 ghost use Rattle.std.specs.Prelude.{◌≡◌, ◌<◌, length, get_or, slice_index_or};
+ghost use Rattle.values.specs.Span.{either, exactly};
 ghost use Rattle.board.specs.Atlas.{board_of};
 ghost use Rattle.assignment.specs.Assignment.{nobody};
 ghost use Rattle.paths.specs.Paths.{path, paths_of};
@@ -25,6 +26,16 @@ pub fn cuts(x: Resolution, y: Resolution) -> bool
     y.order.goes_to(x.unit.region) && x.unit.power != y.unit.power && y.unit.region != x.order.aim()
 }
 
+// The path of the unit in place `i`, from the table of a round. No method of `Round`, since it asks for no tables of the orders.
+pub fn path_at(atlas: &Atlas, paths: &[Tri], i: usize, xs: &[Resolution]) -> Tri
+    requires paths { paths.now ≡ paths_of (board_of atlas.now) xs.now }
+    requires place { i < length xs.now }
+    ensures { result ≡ path (board_of atlas.now) (slice_index_or xs.now i nobody) xs.now }
+{
+    paths[i]
+}
+
+// Paths stand beside the orders, since one list of them serves round after round.
 #[derive(Clone, Copy)]
 pub struct Round<'a> {
     pub atlas: &'a Atlas,
@@ -34,40 +45,34 @@ pub struct Round<'a> {
 }
 
 impl<'a> Round<'a> {
-    // The path of the unit in place `i`. Each method asks of its own `i` that there is such a place: no fact about the round.
-    pub fn path_at(self, i: usize) -> Tri
+    // The strength of the move in place `i`, which without a path is nothing.
+    fn over_path(self, i: usize, strength: Span) -> Span
         requires place { i < length self.orders.list.now }
-        ensures { result ≡ path (board_of self.entry.atlas.now) (slice_index_or self.entry.orders.list.now i nobody) self.entry.orders.list.now }
+        ensures { result ≡ either (path (board_of self.entry.atlas.now) (slice_index_or self.entry.orders.list.now i nobody) self.entry.orders.list.now) strength (exactly 0) }
     {
-        self.paths[i]
+        let path = path_at(self.atlas, self.paths, i, self.orders.list);
+        Span::either(path, strength, Span::exactly(0))
     }
 
-    // The attack of the unit in place `i`, whose order is a move.
+    // The attack of the unit in place `i`, whose order is a move. Each method asks of its own `i` that there is such a place: no fact
+    // about the round.
     pub fn attack(self, i: usize) -> Span
         requires place { i < length self.orders.list.now }
         ensures { result ≡ attack (board_of self.entry.atlas.now) (slice_index_or self.entry.orders.list.now i nobody) self.entry.orders.list.now }
     {
         let x = self.orders.list[i];
         let there = self.orders.who(x.order.aim());
-        Span::either(
-            self.path_at(i),
-            attack_on(self.orders, x, there),
-            Span::exactly(0),
-        )
+        self.over_path(i, attack_on(self.orders, x, there))
     }
 
-    // How much the move in place `i` keeps others out of the region that it goes to. Like `attack` but for the rule that it asks.
+    // How much the move in place `i` keeps others out of the region that it goes to.
     pub fn prevent(self, i: usize) -> Span
         requires place { i < length self.orders.list.now }
         ensures { result ≡ prevent (board_of self.entry.atlas.now) (slice_index_or self.entry.orders.list.now i nobody) self.entry.orders.list.now }
     {
         let x = self.orders.list[i];
         let there = self.orders.who(x.order.aim());
-        Span::either(
-            self.path_at(i),
-            prevent_of(self.orders, x, there),
-            Span::exactly(0),
-        )
+        self.over_path(i, prevent_of(self.orders, x, there))
     }
 
     // Whether the attack `a` of `x` is greater than what every rival prevents.

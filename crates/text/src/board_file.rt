@@ -41,7 +41,7 @@ pub struct BoardFile<'a> {
     pub sail: Vec<u32>,
 }
 
-// NAME land|coast|sea [centre] [home P]
+// NAME land|coast|sea [centre] [home P]. Names stand beside words here and below: they grow while a board's lines are read.
 fn region_line<'a>(names: &Names<'a>, mut words: Words<'a>) -> Result<BoardLine<'a>, Refusal>
     ensures { Reads entry_of (region_form (names_of names.now) (left words.entry)) words.entry.line result }
 {

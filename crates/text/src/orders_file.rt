@@ -33,7 +33,7 @@ pub(super) enum OrdersLine {
     },
 }
 
-// The texts of a phase, five words each. Without a phase line they are of the game's phase.
+// The texts of a phase, five words each. Without a phase line they are of the game's phase. The phase is a number, as the line has it.
 #[derive(Drop)]
 pub struct Block {
     pub phase: Option<u32>,
@@ -194,6 +194,7 @@ fn opening(heap: Global, lines: &[OrdersLine]) -> Result<Vec<Block>, AllocError>
     }
 }
 
+// By number, since what is behind a phase line is a part of the same list.
 fn blocks(heap: Global, lines: &[OrdersLine]) -> Result<Vec<Block>, AllocError>
     ensures { IfOk result (λ read. blocks_in read ≡ blocks lines.now) }
 {

@@ -5,7 +5,7 @@ ghost use Rattle.text.specs.Refusal.{number, unreadable, misfit};
 
 use std::alloc::{AllocError, AllocFailed};
 
-// What is printed of a reason is its number.
+// What is printed of a reason is its number. Files have one more than calls, and this crate knows of no calls.
 #[derive(Clone, Copy, PartialEq, Eq)]
 pub enum Reason {
     // The file is too long, or its words don't fit their counts.

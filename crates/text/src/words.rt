@@ -94,7 +94,7 @@ pub struct Words<'a> {
 }
 
 impl<'a> Words<'a> {
-    // The next word; the empty word where none is left.
+    // The next word; the empty word where none is left. What is left is one list to the definitions, so `more` stands beside it.
     pub(super) fn take(&mut self) -> &'a [u8]
         ensures word { result.now ≡ front (left self.old) }
         ensures rest { left self.new ≡ behind (left self.old) }

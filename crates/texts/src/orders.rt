@@ -41,6 +41,7 @@ pub fn fresh(
     requires { all (stands (board_of atlas.now)) units.now ≡ true }
     ensures { IfOk result (λ v. v.items ≡ fresh (board_of atlas.now) (ordered units.now texts.now.list.items)) }
 {
+    // A loop and no chain: `fresh_one` asks for a power that there is, which a closure would have to ask again.
     let mut out = Vec::new(heap);
     for u in units {
         out.push(fresh_one(atlas, texts, *u))?;

@@ -33,19 +33,20 @@ adjudicate-requires c =
 pub contested-barred-requires : goal.contested-barred-requires
 contested-barred-requires c =
     let told = c.in_ok-done.ensures in
-    c.as_slice-8.ensures.value ∙ told.paths ∙ ap (paths_of (board_of c.args.p.now)) (sym told.outcome ∙ sym c.as_slice-7.ensures.value)
+    c.as_slice-4.ensures.value ∙ told.paths ∙ ap (paths_of (board_of c.args.p.now)) (sym told.outcome ∙ sym c.as_slice-3.ensures.value)
 
 pub returns : goal.returns
 returns c =
     let m = board_of c.args.p.now in
     let is = decided (goal.at.returns c).In_ok-done in
+    let of = c.in_ok-arrivals.ensures ∙ c.as_slice-2.ensures.value ∙ is in
     let fresh-is = played (goal.at.returns c).In_ok-fresh in
     record {
       moved =
           record {
-            units = c.in_ok-units.ensures ∙ ap standing (c.as_slice-4.ensures.value ∙ is);
-            dislodged = c.in_ok-dislodged.ensures ∙ ap displaced (c.as_slice-6.ensures.value ∙ is);
-            barred = subst (λ xs. Holds c.contested-barred.result (contested m xs)) (c.as_slice-7.ensures.value ∙ is) c.contested-barred.ensures;
+            units = c.in_ok-units.ensures ∙ ap standing of;
+            dislodged = c.in_ok-dislodged.ensures ∙ ap displaced of;
+            barred = subst (λ xs. Holds c.contested-barred.result (contested m xs)) (c.as_slice-3.ensures.value ∙ is) c.contested-barred.ensures;
             reports = c.in_ok-done.ensures.reports ∙ ap (λ xs. map (report_one (close (settle m xs))) (settle m xs)) fresh-is;
           };
       promised = decides_right c.args.p.now (vec_items c.args.texts.now.list);

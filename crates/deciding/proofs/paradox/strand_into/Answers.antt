@@ -13,8 +13,8 @@ use Rattle.deciding.proofs.paradox.strand_into.Goals as goal
 
 pub returns-clause-items : goal.returns-clause-items
 returns-clause-items c =
-    let xs = c.args.known.orders.list.now in
-    let make = λ (x : _). path (board_of c.args.known.atlas.now) x xs in
+    let xs = c.args.xs.now in
+    let make = λ (x : _). path (board_of c.args.atlas.now) x xs in
     let change : Resolution × _ → Resolution = λ p. record { unit = p.0.unit; order = p.0.order; value = Open; stranded = p.0.stranded || (is_move p.0.order && is_open p.1) } in
-    refilled c.refill.ensures.items (YieldsList-from_map _ change (YieldsList-at c.map.ensures.source (road make xs c.args.known.paths.now c.args.known.known c.zip-units.result (cc) (cc))) refl (λ p r q k. search rules)) ∙
+    refilled c.refill.ensures.items (YieldsList-from_map _ change (YieldsList-at c.map.ensures.source (road make xs c.args.paths.now c.requires.paths c.zip-units.result (cc) (cc))) refl (λ p r q k. search rules)) ∙
     map_made make change xs

@@ -11,8 +11,7 @@ invariant_of-self-2 c =
     let m = board_of c.args.atlas.now in
     let s = c.decide_all.new.self in
     let here : vec_items c.swap.new.x ≡ strand m (vec_items s.orders) =
-    let list = c.known-known.ensures.orders ∙ c.new-orders.ensures ∙ c.as_slice.ensures.value in
-    ap vec_items c.swap.ensures.x_after ∙ c.strand_into.ensures.items ∙ (λ i. strand (board_of (c.known-known.ensures.atlas i)) (list i)) in
+    ap vec_items c.swap.ensures.x_after ∙ c.strand_into.ensures.items ∙ ap (strand m) c.as_slice-xs.ensures.value in
     record {
       indexed = subst (Indexed s.lookup) (sym here) (indexed_strand m s.lookup (vec_items s.orders) s.indexed);
       inside = subst Inside (sym here) (inside_strand m (vec_items s.orders) s.inside);
