@@ -5,7 +5,7 @@ ghost use Rattle.geography.specs.RegionSet.{Holds};
 
 use geography::RegionSet;
 
-// Nothing where a region isn't on a board of so many.
+// Nothing where a region isn't on a board of so many: no more than 128, which is what a set of regions holds, not a fact about words.
 pub fn read_barred(regions: u8, words: &[u32]) -> Option<RegionSet>
     requires { regions ≤ 128 }
     ensures { MatchOption result (all (λ w. nat_lt w regions) words.now ≡ false) (λ s. (all (λ w. nat_lt w regions) words.now ≡ true) × Holds s words.now) }
