@@ -57,8 +57,8 @@ goals_le t (o ∷ goals) = go (is_just t o) (goals_le t goals)
 abbrev pub Tallied : List ℕ → List (Option ℕ) → List (Option ℕ) → Type 0
 Tallied counts left goals = (r : ℕ) → r < 256 → get_or counts r 0 + goals_in r left ≡ goals_in r goals
 
-pub tally-start : (counts : List ℕ) (goals : List (Option ℕ)) → counts ≡ replicate 256 0 → Tallied counts goals goals
-tally-start counts goals blank r l = let e : get_or counts r 0 ≡ 0 = ap (λ t. get_or t r 0) blank ∙ get_or-replicate 256 r 0 0 l in omega arith
+pub tally-start : (goals : List (Option ℕ)) → Tallied (replicate 256 0) goals goals
+tally-start goals r l = let e : get_or (replicate {A = ℕ} 256 0) r 0 ≡ 0 = get_or-replicate 256 r 0 0 l in omega (arith, e)
 
 pub tally_le : (counts : List ℕ) (goals : List (Option ℕ)) (i t : ℕ) → t < 256 → Tallied counts (drop i goals) goals → get_or counts t 0 ≤ length goals
 tally_le counts goals i t h so = let a = so t h in let n = goals_le t goals in omega arith

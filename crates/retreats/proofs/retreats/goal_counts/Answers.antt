@@ -1,11 +1,11 @@
-use Rattle.std.proofs.Common.{◌≡◌, ◌+◌, get_or, drop, None, refl, ap, ◌∙◌, arith, rules}
+use Rattle.std.proofs.Common.{◌≡◌, ◌+◌, get_or, drop, None, ap, ◌∙◌, arith, rules}
 use Rattle.retreats.specs.Retreating.{goals_in}
 use Rattle.retreats.proofs.Leaving.{tally-start, tally_le, tally_past, tally_more, tally-end}
 use Rattle.retreats.proofs.retreats.goal_counts.Goals as goal
 use Rattle.retreats.proofs.retreats.goal_counts.Goals.{in-Some, in_default}
 
 pub loop-goal-init : goal.loop-goal-init
-loop-goal-init c = (search rules, tally-start _ c.args.goals.now refl)
+loop-goal-init c = (search rules, tally-start c.args.goals.now)
 
 pub overflow_add-counts : goal.overflow_add-counts
 overflow_add-counts c =
