@@ -1,6 +1,6 @@
 -- Retreats by tables: closed regions, goals, how many go to each region, and who lands. Assumes nothing.
 use Rattle.std.proofs.Common.{◌≡◌, ℕ, suc, ◌+◌, ◌<◌, ◌≤◌, Bool, true, false, cond, not, ◌&&◌, ◌||◌, eqb, List, [], ◌∷◌, ◌++◌, map, length, get_or, drop, set, replicate, slice_get, Some, None, Option, sym, refl, ap, ◌∙◌, arith, ⊎_elim}
-use Rattle.std.proofs.lemmas.List.{drop_more, drop_all, get_or_default, get_or-map, get_or-replicate, get_or-set_same, get_or-set_other, length-map}
+use Rattle.std.proofs.lemmas.List.{drop_more, drop_all, get_or-map, get_or-replicate, get_or-set_same, get_or-set_other, length-map}
 use Rattle.std.specs.List.{filter_map, zip}
 use Rattle.std.specs.Option.{option_to_list}
 use Rattle.std.proofs.lemmas.Bool.{ne_eqb, eq-eqb, cases_eq}
@@ -57,12 +57,11 @@ goals_le t (o ∷ goals) = go (is_just t o) (goals_le t goals)
 abbrev pub Tallied : List ℕ → List (Option ℕ) → List (Option ℕ) → Type 0
 Tallied counts left goals = (r : ℕ) → r < 256 → get_or counts r 0 + goals_in r left ≡ goals_in r goals
 
-pub tally-start : (counts : List ℕ) (goals : List (Option ℕ)) → counts ≡ replicate 256 0 → Tallied counts goals goals
-tally-start counts goals blank r l = let e : get_or counts r 0 ≡ 0 = ap (λ t. get_or t r 0) blank ∙ get_or-replicate 256 r 0 0 l in omega arith
+pub tally-start : (goals : List (Option ℕ)) → Tallied (replicate 256 0) goals goals
+tally-start goals r l = let e : get_or (replicate {A = ℕ} 256 0) r 0 ≡ 0 = get_or-replicate 256 r 0 0 l in omega (arith, e)
 
--- x is what was read of the table at t
-pub tally_le : (counts : List ℕ) (goals : List (Option ℕ)) (i t x : ℕ) → t < 256 → length counts ≡ 256 → x ≡ get_or counts t x → Tallied counts (drop i goals) goals → x ≤ length goals
-tally_le counts goals i t x h long read so = let a = so t h in let b = get_or_default counts t x 0 (omega arith) in let n = goals_le t goals in omega arith
+pub tally_le : (counts : List ℕ) (goals : List (Option ℕ)) (i t : ℕ) → t < 256 → Tallied counts (drop i goals) goals → get_or counts t 0 ≤ length goals
+tally_le counts goals i t h so = let a = so t h in let n = goals_le t goals in omega arith
 
 pub tally_past : (counts : List ℕ) (goals : List (Option ℕ)) (i : ℕ) → i < length goals → get_or goals i None ≡ None → Tallied counts (drop i goals) goals → Tallied counts (drop (i + 1) goals) goals
 unfolding gather
@@ -71,11 +70,14 @@ tally_past counts goals i h none so r l =
     let k = so r l in
     omega arith
 
-pub tally_more : (counts : List ℕ) (goals : List (Option ℕ)) (i t x : ℕ) → i < length goals → t < 256 → length counts ≡ 256 → get_or goals i None ≡ Some t → x ≡ get_or counts t x →
-    Tallied counts (drop i goals) goals → Tallied (set counts t (x + 1)) (drop (i + 1) goals) goals
+pub tally_more : (counts : List ℕ) (goals : List (Option ℕ)) (i t : ℕ) → i < length goals → t < 256 → length counts ≡ 256 → get_or goals i None ≡ Some t →
+    Tallied counts (drop i goals) goals → Tallied (set counts t (get_or counts t 0 + 1)) (drop (i + 1) goals) goals
 unfolding gather
-tally_more counts goals i t x h low long some read so r l = ⊎_elim same other (cases_eq r t)
+tally_more counts goals i t h low long some so r l = ⊎_elim same other (cases_eq r t)
   where
+    x : ℕ
+    x = get_or counts t 0
+
     rest : List (Option ℕ)
     rest = drop (i + 1) goals
 
@@ -85,7 +87,7 @@ tally_more counts goals i t x h low long some read so r l = ⊎_elim same other 
     same : r ≡ t → get_or (set counts t (x + 1)) r 0 + goals_in r rest ≡ goals_in r goals
     same e =
         let a : get_or (set counts t (x + 1)) r 0 ≡ x + 1 = ap (λ n. get_or (set counts t (x + 1)) n 0) e ∙ get_or-set_same counts t (x + 1) 0 (omega arith) in
-        let b : get_or counts r 0 ≡ x = ap (λ n. get_or counts n 0) e ∙ get_or_default counts t 0 x (omega arith) ∙ sym read in
+        let b : get_or counts r 0 ≡ x = ap (λ n. get_or counts n 0) e in
         let k = so r l in
         let o : goals_in r (drop i goals) ≡ suc (goals_in r rest) = open_up true (eq-eqb r t e) in
         omega arith

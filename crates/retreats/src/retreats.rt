@@ -53,21 +53,20 @@ pub fn retreat_goals(
 }
 
 // For each region how many retreat to it.
-pub fn goal_counts(heap: Global, goals: &[Option<u8>]) -> Result<Vec<usize>, AllocError>
-    ensures { IfOk result (λ v. (vec_len v ≡ 256) × Counted v.items goals.now) }
+pub fn goal_counts(goals: &[Option<u8>]) -> [usize; 256]
+    ensures { Counted result goals.now }
 {
-    let mut counts = vec![in heap; 0usize; 256]?;
+    let mut counts = [0usize; 256];
     for goal in goals {
         if let Some(to) = *goal {
             counts[to as usize] += 1;
         }
     }
-    Ok(counts)
+    counts
 }
 
 // Two whose retreats go to one region are both gone.
-fn landing(counts: &[usize], u: Unit, goal: Option<u8>) -> Option<Unit>
-    requires { length counts.now ≡ 256 }
+fn landing(counts: &[usize; 256], u: Unit, goal: Option<u8>) -> Option<Unit>
     ensures { (goals : List (Option ℕ)) → Counted counts.now goals → option_to_list result ≡ landing goals u goal }
 {
     let region = goal?;
@@ -78,11 +77,10 @@ fn landing(counts: &[usize], u: Unit, goal: Option<u8>) -> Option<Unit>
 // Those who arrive, in the order of those dislodged.
 fn land(
     out: &mut Vec<Unit>,
-    counts: &[usize],
+    counts: &[usize; 256],
     dislodged: &[Dislodged],
     goals: &[Option<u8>],
 ) -> Result<(), AllocError>
-    requires long { length counts.now ≡ 256 }
     requires counted { Counted counts.now goals.now }
     ensures { OnOk result (out.new.items ≡ out.old.items ++ landings goals.now dislodged.now goals.now) }
 {
@@ -108,8 +106,8 @@ pub fn units_after_retreats(
     ensures { IfOk result (λ v. ((g : Game) → Retreating g units.now dislodged.now barred → v.items ≡ units_after_retreats (board_of atlas.now) g texts.now.list.items)) }
 {
     let goals = retreat_goals(heap, atlas, texts, units, dislodged, barred)?;
-    let counts = goal_counts(heap, goals.as_slice())?;
+    let counts = goal_counts(goals.as_slice());
     let mut out = Vec::from_slice(heap, units)?;
-    land(&mut out, counts.as_slice(), dislodged, goals.as_slice())?;
+    land(&mut out, &counts, dislodged, goals.as_slice())?;
     Ok(out)
 }

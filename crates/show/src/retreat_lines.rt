@@ -25,8 +25,7 @@ fn fate(arrives: bool) -> &'static [u8]
 }
 
 // Whether nobody else goes there.
-fn alone(counts: &[usize], goal: Option<u8>) -> bool
-    requires { length counts.now ≡ 256 }
+fn alone(counts: &[usize; 256], goal: Option<u8>) -> bool
     ensures { (goals : List (Option ℕ)) → Counted counts.now goals → result ≡ alone (λ t. goals_in t goals) goal }
 {
     goal.is_some_and(|t| counts[t as usize] == 1)
@@ -84,10 +83,9 @@ impl<'a, N: Named> Printer<'a, N> {
     fn push_leaving(
         &self,
         out: &mut Vec<u8>,
-        counts: &[usize],
+        counts: &[usize; 256],
         x: Option<Leaving>,
     ) -> Result<(), AllocError>
-        requires { length counts.now ≡ 256 }
         ensures { OnOk result ((goals : List (Option ℕ)) → Counted counts.now goals → out.new.items ≡ out.old.items ++ leaving_line (N.named self.now.names.now) (λ t. goals_in t goals) x) }
     {
         match x {
@@ -109,11 +107,11 @@ impl<'a, N: Named> Printer<'a, N> {
         let heap = *out.allocator();
         let all = leaving(heap, dislodged, goals)?;
         let table = by_region(heap, all.as_slice())?;
-        let counts = goal_counts(heap, goals)?;
-        let (table, counts) = (table.as_slice(), counts.as_slice());
+        let table = table.as_slice();
+        let counts = goal_counts(goals);
         self.push_each(
             out,
-            |out, r| self.push_leaving(out, counts, table[r as usize]),
+            |out, r| self.push_leaving(out, &counts, table[r as usize]),
         )
     }
 }

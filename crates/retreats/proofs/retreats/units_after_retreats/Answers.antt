@@ -11,6 +11,6 @@ returns c = λ g like.
     let goals = vec_items c.in_ok-goals.goals in
     let out = vec_items c.in_ok-out.out in
     c.in_ok-land.ensures ∙
-    ap (λ l. out ++ landings l ds l) c.as_slice-3.ensures.value ∙
+    ap (λ l. out ++ landings l ds l) c.as_slice-2.ensures.value ∙
     ap (λ l. l ++ landings goals ds goals) c.in_ok-out.ensures.items ∙
     landed (board_of c.args.atlas.now) g (vec_items c.args.texts.now.list) us ds goals like.units like.dislodged (c.in_ok-goals.ensures.1 g like)

@@ -18,4 +18,4 @@ returns g c =
     IfOk-weaker c.push_each.result _ _
     (λ x done m game ws wide same each. done ∙ ap (λ l. vec_items c.args.out.now ++ l) (leaving_lines names m game ws goals ds c.args.self.now.regions wide same each))
     (c.push_each.ensures (λ r. leaving_line names (λ t. goals_in t goals) (first_at (λ x. x.unit) r all))
-    (λ r before after low byte told. let e = region_at None (first_at (λ x. x.unit)) (vec_items c.in_ok-table.table) all r tabled byte in let counted = c.in_ok-counts.ensures.1 in search rules))
+    (λ r before after low byte told. let e = region_at None (first_at (λ x. x.unit)) (vec_items c.in_ok-table.table) all r tabled byte in let counted = c.goal_counts-counts.ensures in search rules))
