@@ -27,7 +27,7 @@ fn phases_to(phase: u32, n: u32) -> usize
     }
 }
 
-// How many phases there are until the last block has been taken.
+// How many phases there are until the last block has been taken. This and the three below take what their definitions take.
 fn phases_until(first: u32, blocks: &[Block]) -> Result<usize, AllocError>
     ensures { IfOk result (λ n. n ≡ phases_until first first (blocks_of blocks.now)) }
 {

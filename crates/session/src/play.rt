@@ -71,12 +71,7 @@ impl<'a> Playing<'a> {
     pub fn refuse(&self, out: &mut Vec<u8>, refusal: Refusal) -> Result<(), AllocError>
         ensures { OnOk result (out.new.items ≡ out.old.items ++ refused_bytes (place_names self.now.places) (board_of self.now.position) (game_of self.now.position) (number refusal.reason) refusal.line) }
     {
-        push_refusal(
-            *out.allocator(),
-            out,
-            u8::from(refusal.reason),
-            refusal.line,
-        )?;
+        push_refusal(out, u8::from(refusal.reason), refusal.line)?;
         self.push_position(out)
     }
 
@@ -149,7 +144,8 @@ impl<'a> Playing<'a> {
         self.push_position(out)
     }
 
-    // The verdict on a phase's words, and what is printed; a refusal changes nothing.
+    // Whether a phase's words were accepted, which is all that playing on asks of the verdict, and what is printed; a refusal
+    // changes nothing.
     fn play_words(
         &mut self,
         out: &mut Vec<u8>,

@@ -59,7 +59,7 @@ fn play_files(
         Ok(game) => play_orders(heap, program, game, orders),
         Err(Fault::At(refusal)) => {
             let mut out = Vec::new(heap);
-            push_refusal(heap, &mut out, u8::from(refusal.reason), refusal.line)?;
+            push_refusal(&mut out, u8::from(refusal.reason), refusal.line)?;
             Ok(out)
         }
         Err(Fault::NoMemory) => Err(AllocError),

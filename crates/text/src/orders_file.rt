@@ -144,7 +144,7 @@ impl<'l, 'n, 'a> Reader<'l> for OrdersReader<'n, 'a> {
     }
 }
 
-// The texts before the next phase line.
+// The texts before the next phase line. This and the three below make a list of lines, so each takes a heap and the lines.
 fn texts(heap: Global, lines: &[OrdersLine]) -> Result<Vec<u32>, AllocError>
     ensures { IfOk result (λ words. words.items ≡ texts lines.now) }
 {
