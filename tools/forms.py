@@ -42,7 +42,7 @@ def lines(pattern):
 
 def point_1():
     for path, text in sources():
-        for enum in re.finditer(r"enum (\w+)[^{]*\{(.*?)^\}", text, re.M | re.S):
+        for enum in re.finditer(r"^(?:pub(?:\(\w+\))? )?enum (\w+)[^{]*\{(.*?)^\}", text, re.M | re.S):
             variants = re.findall(r"^    (\w+)", enum.group(2), re.M)
             if len(variants) <= 3 or variants[0] in ("Accepted", "Ok", "None", "Nobody", "Nothing"):
                 yield f"{path}", f"enum {enum.group(1)}: {', '.join(variants)}"
