@@ -16,7 +16,7 @@ pub trait Worded: Standing {
         ensures { OnOk result (out.new.items ≡ out.old.items ++ words_of self.now) };
 }
 
-// 0 for none, else one more.
+// 0 for none, else one more: the format's own step, and no `From`, since neither type is of this crate.
 pub fn one_more(o: Option<u8>) -> usize
     ensures { result ≡ one_more o }
 {
@@ -28,8 +28,8 @@ impl Worded for Unit {
 
     fn push_to(&self, out: &mut Vec<usize>) -> Result<(), AllocError> {
         out.extend_from_slice(&[
-            self.power as usize,
-            self.region as usize,
+            usize::from(self.power),
+            usize::from(self.region),
             usize::from(self.fleet),
         ])
     }
@@ -41,8 +41,8 @@ impl Worded for Dislodged {
     fn push_to(&self, out: &mut Vec<usize>) -> Result<(), AllocError> {
         let unit = self.unit;
         out.extend_from_slice(&[
-            unit.power as usize,
-            unit.region as usize,
+            usize::from(unit.power),
+            usize::from(unit.region),
             usize::from(unit.fleet),
             one_more(self.from),
         ])
@@ -60,14 +60,14 @@ fn push_order(out: &mut Vec<usize>, order: Order) -> Result<(), AllocError>
         Order::SupportMove { from, to } => (4, from, to),
         Order::Convoy { from, to } => (5, from, to),
     };
-    out.extend_from_slice(&[kind, a as usize, b as usize])
+    out.extend_from_slice(&[kind, usize::from(a), usize::from(b)])
 }
 
 impl Worded for Report {
     ghost words_of = { λ x. report_words x };
 
     fn push_to(&self, out: &mut Vec<usize>) -> Result<(), AllocError> {
-        out.extend_from_slice(&[self.unit.region as usize])?;
+        out.extend_from_slice(&[usize::from(self.unit.region)])?;
         push_order(out, self.order)?;
         out.extend_from_slice(&[
             usize::from(self.success),

@@ -30,7 +30,8 @@ pub fn with_units(atlas: &Atlas, units: &[Unit], start: RegionSet) -> RegionSet
 }
 
 // Where each of those dislodged retreats to, if it does. It takes the parts of a position, whose invariant says what is asked of
-// them: a type of their own would be made of them here and be taken apart in the next line.
+// them: a type of their own would be made of them here and be taken apart in the next line. Goals stand apart from those dislodged,
+// since the definition makes a list of them.
 pub fn retreat_goals(
     heap: Global,
     atlas: &Atlas,

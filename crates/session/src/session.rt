@@ -46,6 +46,7 @@ fn play_orders(
     }
 }
 
+// The files of a program, in the order in which it is called with them.
 fn play_files(
     heap: Global,
     program: Program,

@@ -94,7 +94,7 @@ impl<'a, N: Named> Printer<'a, N> {
         }
     }
 
-    // Those dislodged, each of whom retreats to its goal.
+    // Those dislodged, each of whom retreats to its goal. Goals stand apart, since what is promised of retreats is a list of them.
     pub fn push_retreats(
         &self,
         out: &mut Vec<u8>,

@@ -67,7 +67,7 @@ impl<'a, N: Named> Printer<'a, N> {
         self.push_came(out, before, after)
     }
 
-    // The units before and after a winter: two lists, so two tables by region.
+    // The units before and after a winter: two lists, so two tables by region. Lines are told of both, so what prints them takes both.
     pub fn push_winter(
         &self,
         out: &mut Vec<u8>,

@@ -46,7 +46,7 @@ pub struct GameFile {
     pub owners: Vec<u32>,
 }
 
-// P army|fleet NAME
+// P army|fleet NAME. This and the next are two forms of the format, each with its definition.
 fn unit_line(names: &Names, mut words: Words) -> Result<GameLine, Refusal>
     ensures { Reads (λ x. x) (unit_form (names_of names.now) (left words.entry)) words.entry.line result }
 {

@@ -22,7 +22,7 @@ pub(super) struct Command {
     two: usize,
 }
 
-// One line as it is read.
+// One line as it is read, in numbers for the same reason.
 #[derive(Clone, Copy)]
 pub(super) enum OrdersLine {
     Phase(u32),
@@ -40,6 +40,7 @@ pub struct Block {
     pub words: Vec<u32>,
 }
 
+// This and the next two are three forms of the format, each with its definition.
 fn plain(kind: u32, words: Words) -> Result<Command, Refusal>
     ensures { Reads (λ x. x) (plain_form kind (left words.entry)) words.entry.line result }
 {

@@ -30,7 +30,8 @@ fn one_of(first: u8, last: u8, word: &[u8]) -> Option<u32>
     }
 }
 
-// Compared in turn: a match on byte strings leaves a goal open for each byte.
+// Compared in turn: a match on byte strings leaves a goal open for each byte. A number and no enum, here and in the next, since it is
+// the word of a call.
 #[tactic(auto, unfolding(crate::specs::Words::kind))]
 fn kind_of(word: &[u8]) -> Option<u32>
     ensures { result ≡ kind word.now }
@@ -73,7 +74,7 @@ fn is_name(word: &[u8]) -> bool
 }
 
 // A number as a word of a call. No file within its limit has so many lines that it doesn't fit; one that doesn't is
-// answered like want of memory.
+// answered like want of memory. No `try_from`: that takes one number more, and `from_word` adds one.
 pub(super) fn word(n: usize) -> Result<u32, AllocError>
     ensures { IfOk result (λ w. (w ≡ n) × (w + 1 < 2 ^ 32)) }
 {
@@ -94,7 +95,8 @@ pub struct Words<'a> {
 }
 
 impl<'a> Words<'a> {
-    // The next word; the empty word where none is left. What is left is one list to the definitions, so `more` stands beside it.
+    // The next word; the empty word where none is left. What is left is one list to the definitions, so `more` stands beside it. As
+    // in `Lines::next`, but that a last empty word counts: one for both would give back which it was.
     pub(super) fn take(&mut self) -> &'a [u8]
         ensures word { result.now ≡ front (left self.old) }
         ensures rest { left self.new ≡ behind (left self.old) }

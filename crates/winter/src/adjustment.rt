@@ -126,6 +126,7 @@ impl Adjustment<'_> {
         home == Some(self.power)
     }
 
+    // As `owner_of` of `show` looks an owner up: the crates share none that has owners.
     fn owns(&self, r: u8) -> bool
         ensures { result ≡ is_just self.now.power (slice_index_or self.now.owners.now r None) }
     {
