@@ -6,6 +6,7 @@ use super::resolution::Resolution;
 use board::Order;
 use std::alloc::{AllocError, Global};
 
+// Two tables, since a region's unit and the orders aimed at it are looked up apart.
 #[derive(Drop)]
 pub struct Lookup {
     // For each region the place of its unit in the list.

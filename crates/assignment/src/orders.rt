@@ -41,7 +41,8 @@ impl<'a> Orders<'a> {
         &self.lookup.aimed[r as usize]
     }
 
-    // Whether some move into `r` succeeds.
+    // Whether some move into `r` succeeds. A loop, as the three in `strength`: each turn reads a place of the list, whose bound a
+    // closure would have to ask for again.
     pub fn entered(self, r: u8) -> Tri
         ensures { result ≡ entered r self.entry.list.now }
     {

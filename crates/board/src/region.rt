@@ -14,7 +14,7 @@ pub struct Region {
     pub kind: Kind,
     // A supply centre (the club: a centre).
     pub centre: bool,
-    // The power that may build here.
+    // The power that may build here: a number, as in `Unit`.
     pub home: Option<u8>,
 }
 
@@ -44,7 +44,7 @@ impl Kind {
     }
 }
 
-// Whether a fleet, or else an army, can be in `r`.
+// Whether a fleet, or else an army, can be in `r`: told apart as in `Unit`.
 pub fn can_stand(regions: &[Region], fleet: bool, r: u8) -> bool
     ensures { result ≡ can_stand (land regions.now) fleet r }
 {

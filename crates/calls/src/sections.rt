@@ -11,7 +11,7 @@ pub struct Front<'a> {
     pub march: &'a [[u32; 2]],
     pub sail: &'a [[u32; 2]],
     pub units: &'a [[u32; 3]],
-    // As many as regions.
+    // As many as regions, and apart from them in the words.
     pub owners: &'a [[u32; 1]],
     pub rest: &'a [u32],
 }
@@ -19,6 +19,7 @@ pub struct Front<'a> {
 #[derive(Clone, Copy)]
 pub struct Sections<'a> {
     pub front: Front<'a>,
+    // A number still: whether it is a phase's is asked when the game is read.
     pub phase: u32,
     pub dislodged: &'a [[u32; 4]],
     pub barred: &'a [u32],

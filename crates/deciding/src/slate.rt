@@ -13,7 +13,7 @@ pub struct Slate {
     // The tables of these orders.
     pub(super) lookup: Lookup,
     pub orders: Vec<Resolution>,
-    // For what the orders become next.
+    // For what the orders become next, and what is found of them in a round: apart from them, since these lists serve round after round.
     pub(super) spare: Vec<Resolution>,
     pub(super) dislodged: Vec<Tri>,
     pub(super) paths: Vec<Tri>,

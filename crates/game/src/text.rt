@@ -1,4 +1,4 @@
-// What a power wrote for a region.
+// What a power wrote for a region. Powers and kinds of units are as in `board::Unit`.
 use board::Order;
 
 #[derive(Clone, Copy)]

@@ -1,4 +1,5 @@
-// Edges for one kind of unit: the list, and beside it for each region the set of regions joined to it.
+// Edges for one kind of unit: the list, which is what the definitions speak of, and beside it for each region the set of regions joined
+// to it, which answers at once.
 ghost use Rattle.std.specs.Prelude.{◌≡◌, ℕ, ◌<◌, ◌≤◌, ◌&&◌, ◌||◌, length, replicate, IfOk, vec_len, ◌==◌, slice_index_or};
 ghost use Rattle.geography.specs.RegionSet.{has, empty};
 ghost use Rattle.geography.specs.Links.{linked, Tied, Ends};

@@ -11,6 +11,7 @@ use assignment::{Orders, Resolution};
 use board::Atlas;
 use values::Tri;
 
+// Room is asked for, here and below, since the list is lent: who lends it keeps the room as a fact.
 pub fn dislodged_into(orders: Orders, out: &mut Vec<Tri>)
     requires room { 128 ≤ vec_capacity out.old }
     ensures items { out.new.items ≡ dislodged_of orders.entry.list.now }

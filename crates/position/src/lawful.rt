@@ -70,6 +70,7 @@ pub fn good_owners(regions: &[Region], owners: &[Option<u8>]) -> bool
             .all(|(region, owner)| good_owner(*region, *owner))
 }
 
+// Up to 128 regions, which is what a set holds: no fact about a game.
 pub fn none_barred(regions: usize, barred: RegionSet) -> bool
     requires { regions ≤ 128 }
     ensures { result ≡ (length (those regions (has barred)) == 0) }

@@ -16,7 +16,7 @@ pub struct Position {
     pub dislodged: Vec<Dislodged>,
     // Regions closed to retreats.
     pub barred: RegionSet,
-    // For each region its owner, or nobody.
+    // For each region its owner, or nobody: a list of its own, as the definitions have it.
     pub owners: Vec<Option<u8>>,
     ghost legal: { lawful (board_of atlas) (game_on atlas phase units.items dislodged.items barred owners.items) ≡ true },
 }

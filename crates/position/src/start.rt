@@ -31,6 +31,7 @@ fn peopled(atlas: &Atlas, units: &[Unit], dislodged: &[Dislodged]) -> bool
     well_placed(atlas, units) && well_placed(atlas, dislodged) && all_from_board(atlas, dislodged)
 }
 
+// A game's parts, before there is a position that has them.
 fn is_lawful(
     atlas: &Atlas,
     phase: Phase,

@@ -38,6 +38,7 @@ pub fn against(orders: Orders, x: Resolution, y: Resolution) -> Span
     }
 }
 
+// This, `prevent_of` and `to_beat` take the mover and who stands there, as the rules have it: a struct would be made for one call.
 pub fn attack_on(orders: Orders, x: Resolution, there: Option<Resolution>) -> Span
     ensures { result ≡ attack_on x orders.entry.list.now there }
 {

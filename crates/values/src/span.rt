@@ -10,6 +10,7 @@ pub struct Span {
     pub greatest: u8,
 }
 
+// Methods and no operators, as docs/DECISIONS.md has them.
 impl Span {
     pub fn exactly(n: u8) -> Span
         ensures { result ≡ exactly n }

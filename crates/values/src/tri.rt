@@ -18,6 +18,7 @@ impl From<bool> for Tri {
     }
 }
 
+// Methods and no operators, as docs/DECISIONS.md has them.
 impl Tri {
     pub fn not(self) -> Tri
         ensures { result ≡ not_tri self }
