@@ -1,6 +1,9 @@
 // The command line of a program that reads three files and prints what it makes of them.
 #![tactic(auto)]
 
+ghost use Rattle.std.specs.Prelude.{◌≡◌, codes};
+ghost use Rattle.std.specs.Str.{bytes_eq};
+
 use std::alloc::{AllocError, Global};
 use std::io::Write;
 use std::{env, fs, io};
@@ -18,6 +21,13 @@ impl<'a> Program<'a> {
         println!(rt; "{name} BOARD GAME ORDERS")?;
         println!(rt; "{purpose}")
     }
+}
+
+// Whether the first argument is no file.
+fn asks_for_help(argument: &str) -> bool
+    ensures { result ≡ bytes_eq argument.now (codes "--help") }
+{
+    argument == "--help"
 }
 
 fn wanted() -> io::Error {
@@ -57,7 +67,7 @@ pub fn run<F: FnOnce(Global, &[u8], &[u8], &[u8]) -> Result<Vec<u8>, AllocError>
     let Some(board) = args.next() else {
         return Err(wanted());
     };
-    if board.as_str() == "--help" {
+    if asks_for_help(board.as_str()) {
         return program.help(rt);
     }
     let Some(game) = args.next() else {
