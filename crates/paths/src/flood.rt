@@ -1,31 +1,39 @@
 // A chain of fleets from coast to coast, found by a flood over sets of regions.
-ghost use Rattle.std.specs.Prelude.{◌≡◌, ℕ, ◌<◌, ◌&&◌, List, [], ◌∷◌, length};
+ghost use Rattle.std.specs.Prelude.{◌≡◌, ℕ, ◌<◌, ◌&&◌, List, [], ◌∷◌, length, get_or, slice_index_or};
 ghost use Rattle.geography.specs.RegionSet.{Holds};
 ghost use Rattle.board.specs.Order.{convoys};
 ghost use Rattle.board.specs.Atlas.{board_of};
-ghost use Rattle.paths.specs.Paths.{touches, reached, flood, lands, chain};
+ghost use Rattle.assignment.specs.Assignment.{nobody};
+ghost use Rattle.paths.specs.Paths.{carrier, reached, flood, lands, chain};
 ghost use Rattle.paths.specs.Flood.{counts};
 
 use super::crossing::Crossing;
 use super::staying::Staying;
 use super::water::Water;
-use assignment::Resolution;
 use geography::RegionSet;
-use values::Tri;
 
 impl<'a, S: Staying> Crossing<'a, S> {
-    // Whether the fleet `x` carries this army, and counts.
-    fn carries(&self, x: &Resolution, dislodged: Tri) -> bool
-        ensures { result ≡ (convoys self.now.from self.now.to x.now.order && S.stays self.now.fleets dislodged) }
+    // Whether the fleet in place `i` carries this army, and counts. By its place, so that a table is read only where a fleet carries.
+    fn carries(&self, i: usize) -> bool
+        requires { i < length self.now.water.xs.now }
+        ensures { result ≡ (convoys self.now.from self.now.to (get_or self.now.water.xs.now i nobody).order && counts (S.stays self.now.fleets) self.now.water.xs.now (slice_index_or self.now.water.xs.now i nobody)) }
     {
-        x.order.convoys(self.from, self.to) && self.fleets.stays(dislodged)
+        self.water.xs[i].order.convoys(self.from, self.to)
+            && self.fleets.stays(self.water.dislodged[i])
     }
 
     // Whether it lies beside what is reached so far, too.
-    fn reaches(&self, x: &Resolution, dislodged: Tri, seen: RegionSet) -> bool
-        ensures { (qs : List ℕ) → Holds seen qs → result ≡ ((convoys self.now.from self.now.to x.now.order && S.stays self.now.fleets dislodged) && touches (board_of self.now.water.atlas.now) x.now.unit.region qs) }
+    fn reaches(&self, i: usize, seen: RegionSet) -> bool
+        requires { i < length self.now.water.xs.now }
+        ensures { (qs : List ℕ) → Holds seen qs → result ≡ carrier (board_of self.now.water.atlas.now) (counts (S.stays self.now.fleets) self.now.water.xs.now) self.now.from self.now.to qs (slice_index_or self.now.water.xs.now i nobody) }
     {
-        self.carries(x, dislodged) && self.water.atlas.sail.beside(x.unit.region).touches(seen)
+        self.carries(i)
+            && self
+                .water
+                .atlas
+                .sail
+                .beside(self.water.xs[i].unit.region)
+                .touches(seen)
     }
 
     // What is reached so far, and all fleets beside it that carry and count.
@@ -33,8 +41,8 @@ impl<'a, S: Staying> Crossing<'a, S> {
         ensures { (qs : List ℕ) → Holds seen qs → Holds result (reached (board_of self.now.water.atlas.now) (counts (S.stays self.now.fleets) self.now.water.xs.now) self.now.from self.now.to qs self.now.water.xs.now) }
     {
         let mut next = seen;
-        for (x, dislodged) in self.water.xs.iter().zip(self.water.dislodged) {
-            if self.reaches(x, *dislodged, seen) {
+        for (i, x) in self.water.xs.iter().enumerate() {
+            if self.reaches(i, seen) {
                 next.insert(x.unit.region);
             }
         }
@@ -60,10 +68,12 @@ impl<'a, S: Staying> Crossing<'a, S> {
     fn lands(&self, seen: RegionSet) -> bool
         ensures { (qs : List ℕ) → Holds seen qs → result ≡ lands (board_of self.now.water.atlas.now) (counts (S.stays self.now.fleets) self.now.water.xs.now) self.now.from self.now.to qs self.now.water.xs.now }
     {
-        self.water.xs.iter().zip(self.water.dislodged).any(|(x, dislodged)| {
-            self.reaches(x, *dislodged, seen)
-                && self.water.atlas.sail.joined(x.unit.region, self.to)
-        })
+        for (i, x) in self.water.xs.iter().enumerate() {
+            if self.reaches(i, seen) && self.water.atlas.sail.joined(x.unit.region, self.to) {
+                return true;
+            }
+        }
+        false
     }
 }
 

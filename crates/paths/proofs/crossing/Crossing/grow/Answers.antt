@@ -1,27 +1,20 @@
-use Rattle.std.proofs.Common.{◌≡◌, ◌+◌, true, false, ◌||◌, [], length, drop, sym, ap, ◌∙◌, arith}
+use Rattle.std.proofs.Common.{◌≡◌, ◌+◌, true, false, ◌||◌, [], drop, get_or, sym, ap, ◌∙◌, rules}
 use Rattle.std.proofs.lemmas.Bool.{or_right}
-use Rattle.std.proofs.lemmas.List.{length_push, drop_all}
+use Rattle.std.proofs.lemmas.List.{drop_all}
 use Rattle.values.specs.Fold.{is_in}
 use Rattle.geography.specs.RegionSet.{has}
 use Rattle.board.specs.Atlas.{board_of}
-use Rattle.assignment.specs.Assignment.{dislodged}
+use Rattle.assignment.specs.Assignment.{nobody}
+use Rattle.assignment.proofs.Steps.{resolution_more}
+use Rattle.assignment.proofs.Tabled.{inside_at}
 use Rattle.paths.specs.Paths.{carrier, reached}
 use Rattle.paths.specs.Flood.{counts}
 use Rattle.paths.proofs.Flooding.{grown_start, grown, passed, grown-end}
-use Rattle.paths.proofs.Inside.{inside_item}
-use Rattle.paths.proofs.InStep.{Step, step_turn, step_end}
-use Rattle.paths.proofs.crossing.Crossing.grow.Given.{Over}
 use Rattle.paths.proofs.crossing.Crossing.grow.Goals as goal
-use Rattle.paths.proofs.crossing.Crossing.grow.Goals.{In-Some}
+use Rattle.paths.proofs.crossing.Crossing.grow.Goals.{then-reaches, else-reaches}
 
--- what a turn takes
-turn : (g : Over) (c : In-Some g) → Step (λ x. dislodged x c.args.self.now.water.xs.now) c.args.self.now.water.xs.now (length c.loop-x.yielded) c.in-Some.x.now c.in-Some.dislodged.now
-turn g c =
-    let w = c.args.self.now.water in
-    step_turn (λ x. dislodged x w.xs.now) w.xs.now w.dislodged.now w.table c.into_iter-x-iterator.result (cc) (cc) c.loop-x.yielded c.loop-x.x-iterator c.loop-x.yielded_by _ c.next.new.self c.in-Some.x c.in-Some.dislodged c.in-Some.is c.next.ensures.steps
-
-pub loop-x-init : goal.loop-x-init
-loop-x-init g c = (
+pub loop-i-init : goal.loop-i-init
+loop-i-init g c = (
   λ q h. h,
   λ rs same q.
       let s = c.args.self.now in
@@ -30,48 +23,45 @@ loop-x-init g c = (
 )
 
 pub insert-requires : goal.insert-requires
-insert-requires g c = let step = turn g (goal.at.insert-requires g c).In-Some in inside_item c.args.self.now.water.xs.now (length c.loop-x.yielded) c.in-Some.x.now c.args.self.now.water.inside step.left step.here
+insert-requires g c = search (rules, inside_at)
 
-pub loop-x-preserved-then-reaches : goal.loop-x-preserved-then-reaches
-loop-x-preserved-then-reaches g c =
+pub loop-i-preserved : goal.loop-i-preserved
+loop-i-preserved g c =
     let s = c.args.self.now in
+    let xs = s.water.xs.now in
     let m = board_of s.water.atlas.now in
-    let p = counts (g.S.Staying.stays s.fleets) s.water.xs.now in
-    let n = length c.loop-x.yielded in
-    let step = turn g (goal.at.loop-x-preserved-then-reaches g c).In-Some in (
-      λ q h. c.insert.ensures q ∙ or_right _ _ (c.loop-x.invariant.0 q h),
-      λ rs same q.
-          let here : carrier m p s.from s.to rs c.in-Some.x.now ≡ true = let e = c.reaches.ensures rs same in let d = step.made in cc in
-          ap (λ k. has c.insert.new.self q || is_in q (reached m p s.from s.to rs (drop k s.water.xs.now))) (length_push c.loop-x.yielded _) ∙
-          grown m p s.from s.to (has c.loop-x.next) (has c.insert.new.self) rs c.in-Some.x.now (drop (n + 1) s.water.xs.now) c.insert.ensures here q ∙
-          ap (λ l. has c.loop-x.next q || is_in q (reached m p s.from s.to rs l)) (sym step.rest) ∙
-          c.loop-x.invariant.1 rs same q,
-    )
-
-pub loop-x-preserved : goal.loop-x-preserved
-loop-x-preserved g c =
-    let s = c.args.self.now in
-    let m = board_of s.water.atlas.now in
-    let p = counts (g.S.Staying.stays s.fleets) s.water.xs.now in
-    let n = length c.loop-x.yielded in
-    let step = turn g (goal.at.loop-x-preserved g c).In-Some in (
-      c.loop-x.invariant.0,
-      λ rs same q.
-          let here : carrier m p s.from s.to rs c.in-Some.x.now ≡ false = let e = c.reaches.ensures rs same in let d = step.made in cc in
-          ap (λ k. has c.loop-x.next q || is_in q (reached m p s.from s.to rs (drop k s.water.xs.now))) (length_push c.loop-x.yielded _) ∙
-          ap (λ l. has c.loop-x.next q || is_in q l) (passed m p s.from s.to rs c.in-Some.x.now (drop (n + 1) s.water.xs.now) here) ∙
-          ap (λ l. has c.loop-x.next q || is_in q (reached m p s.from s.to rs l)) (sym step.rest) ∙
-          c.loop-x.invariant.1 rs same q,
-    )
+    let p = counts (g.S.Staying.stays s.fleets) xs in
+    let x = get_or xs c.loop-i.i nobody in
+    let others = drop (c.loop-i.i + 1) xs in
+    let more = resolution_more xs c.loop-i.i c.loop-i-test.true in
+    elim c.if-reaches.branch [
+      | then-reaches w ↦ (
+        λ q h. ap (λ t. has t q) w.next-is ∙ w.insert.ensures q ∙ or_right _ _ (c.loop-i.invariant.0 q h),
+        λ rs same q.
+            let here : carrier m p s.from s.to rs x ≡ true = let e = c.reaches.ensures rs same in let b = w.if-reaches in search rules in
+            ap (λ t. has t q || is_in q (reached m p s.from s.to rs others)) w.next-is ∙
+            grown m p s.from s.to (has c.loop-i.next) (has w.insert.new.self) rs x others w.insert.ensures here q ∙
+            ap (λ l. has c.loop-i.next q || is_in q (reached m p s.from s.to rs l)) (sym more) ∙
+            c.loop-i.invariant.1 rs same q,
+      )
+      | else-reaches w ↦ (
+        λ q h. ap (λ t. has t q) w.next-is ∙ c.loop-i.invariant.0 q h,
+        λ rs same q.
+            let here : carrier m p s.from s.to rs x ≡ false = let e = c.reaches.ensures rs same in let b = w.if-reaches in search rules in
+            ap (λ t. has t q || is_in q (reached m p s.from s.to rs others)) w.next-is ∙
+            ap (λ l. has c.loop-i.next q || is_in q l) (passed m p s.from s.to rs x others here) ∙
+            ap (λ l. has c.loop-i.next q || is_in q (reached m p s.from s.to rs l)) (sym more) ∙
+            c.loop-i.invariant.1 rs same q,
+      )
+    ]
 
 pub returns : goal.returns
 returns g c = λ rs same q.
     let s = c.args.self.now in
+    let xs = s.water.xs.now in
     let m = board_of s.water.atlas.now in
-    let p = counts (g.S.Staying.stays s.fleets) s.water.xs.now in
-    let w = s.water in
-    let all = step_end (λ x. dislodged x w.xs.now) w.xs.now w.dislodged.now w.table c.into_iter-x-iterator.result (cc) (cc) c.loop-x.yielded c.loop-x.x-iterator c.loop-x.yielded_by _ c.next.new.self c.in-None.is c.next.ensures.steps in
-    let done : drop (length c.loop-x.yielded) w.xs.now ≡ [] = drop_all (length c.loop-x.yielded) w.xs.now (omega arith) in
-    sym (grown-end m p s.from s.to (has c.loop-x.next q) rs q (λ h. c.loop-x.invariant.0 q (same q ∙ h))) ∙
-    ap (λ l. has c.loop-x.next q || is_in q (reached m p s.from s.to rs l)) (sym done) ∙
-    c.loop-x.invariant.1 rs same q
+    let p = counts (g.S.Staying.stays s.fleets) xs in
+    let done : drop c.loop-i.i xs ≡ [] = search (rules, drop_all) in
+    sym (grown-end m p s.from s.to (has c.loop-i.next q) rs q (λ h. c.loop-i.invariant.0 q (same q ∙ h))) ∙
+    ap (λ l. has c.loop-i.next q || is_in q (reached m p s.from s.to rs l)) (sym done) ∙
+    c.loop-i.invariant.1 rs same q
