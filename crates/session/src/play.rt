@@ -67,12 +67,19 @@ impl<'a> Playing<'a> {
         )
     }
 
+    // A refusal by its number, whichever that is, and the game as it stood.
+    pub fn refuse_by(&self, out: &mut Vec<u8>, number: u8, line: u32) -> Result<(), AllocError>
+        ensures { OnOk result (out.new.items ≡ out.old.items ++ refused_bytes (place_names self.now.places) (board_of self.now.position) (game_of self.now.position) number line) }
+    {
+        push_refusal(out, number, line)?;
+        self.push_position(out)
+    }
+
     // A refusal, and the game as it stood.
     pub fn refuse(&self, out: &mut Vec<u8>, refusal: Refusal) -> Result<(), AllocError>
         ensures { OnOk result (out.new.items ≡ out.old.items ++ refused_bytes (place_names self.now.places) (board_of self.now.position) (game_of self.now.position) (number refusal.reason) refusal.line) }
     {
-        push_refusal(out, u8::from(refusal.reason), refusal.line)?;
-        self.push_position(out)
+        self.refuse_by(out, u8::from(refusal.reason), refusal.line)
     }
 
     // What becomes of those dislodged.

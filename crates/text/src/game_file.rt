@@ -6,7 +6,7 @@ ghost use Rattle.text.specs.Names.{names_of};
 ghost use Rattle.text.specs.Reader.{left};
 ghost use Rattle.text.specs.GameFile.{GameEntries, unit_form, out_form, barred_form, owner_form, game_form, game_step, game_file, no_game, with_line, from_word, game_entries};
 
-use super::lines::Line;
+use super::lines::{Line, within_limit};
 use super::names::Names;
 use super::reader::{Reader, read_whole};
 use super::refusal::{Fault, Refusal};
@@ -217,6 +217,8 @@ impl<'l, 'n, 'a> Reader<'l> for GameReader<'n, 'a> {
 pub fn read_game(heap: Global, names: &Names, text: &[u8]) -> Result<GameFile, Fault>
     ensures { Answers game_entries (game_file (names_of names.now) text.now) result }
 {
+    // Asked here too, since the owners' list wants memory: a file that is too long is refused all the same.
+    within_limit(text)?;
     let game = GameFile::new(heap, names.count())?;
     let reader = read_whole(GameReader { names, game }, text)?;
     Ok(reader.game)
