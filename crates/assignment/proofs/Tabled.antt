@@ -23,7 +23,7 @@ at_place xs (x ∷ ys) i r e = go (at_place xs ys (i + 1) r (λ k. let f : i + s
     go below true = let f : i + 0 ≡ i = omega arith in ap Some (sym (e 0 ∙ ap (λ n. get_or xs n nobody) f))
     go below false = below
 
-placed_at : (table : List (Option ℕ)) (xs : List Resolution) (r : ℕ) → Placed table xs → r < 256 → option_map (λ k. get_or xs k nobody) (get_or table r None) ≡ who r xs
+pub placed_at : (table : List (Option ℕ)) (xs : List Resolution) (r : ℕ) → Placed table xs → r < 256 → option_map (λ k. get_or xs k nobody) (get_or table r None) ≡ who r xs
 unfolding Placed
 placed_at table xs r h l = ap (option_map (λ k. get_or xs k nobody)) (h r l) ∙ at_place xs xs 0 r (λ k. let e : k ≡ 0 + k = omega arith in ap (λ n. get_or xs n nobody) e)
 

@@ -1,12 +1,12 @@
 -- An entry that the code can't make is not in a good board or a lawful game. Assumes nothing.
-use Rattle.std.proofs.Common.{◌≡◌, ℕ, Bool, true, false, not, eqb, ltb, leb, List, [], ◌∷◌, map, length, refl}
+use Rattle.std.proofs.Common.{◌≡◌, ℕ, zero, suc, Bool, true, false, not, eqb, ltb, leb, List, [], ◌∷◌, map, length, drop, refl, ap}
 use Rattle.std.proofs.lemmas.Bool.{and_parts, and_from, and_left, and_right, both_ways}
 use Rattle.values.specs.Fold.{all}
 use Rattle.board.specs.Board.{Board, on_board, can_stand, good_edge, good_board, is_power}
 use Rattle.calls.specs.declared.verdict.Refusal.{Refusal}
 use Rattle.calls.specs.declared.fault.Fault.{Fault}
 use Rattle.calls.specs.declared.fault.Fault.TheVariants.{Refused, NoMemory}
-use Rattle.calls.specs.Words.{at}
+use Rattle.calls.specs.Words.{at, entries, every_entry}
 use Rattle.calls.specs.Read.{RefusedUnless}
 use Rattle.calls.specs.Begin.{edge_in}
 use Rattle.calls.specs.Strict.{ends_on}
@@ -43,6 +43,34 @@ all_weaker strict good f [] h = refl
 all_weaker strict good f (x ∷ xs) h =
     let g = and_parts (strict x) (all strict xs) h in
     and_from (good x) (all good xs) (f x g.0) (all_weaker strict good f xs g.1)
+
+pub length-entries : {A : Type 0} (n w : ℕ) (read : List ℕ → A) (ws : List ℕ) → length (entries n w read ws) ≡ n
+unfolding entries
+length-entries zero w read ws = refl
+length-entries (suc n) w read ws = ap suc (length-entries n w read (drop w ws))
+
+-- good words whose entries pass are good by a stricter test
+pub every_from : {A : Type 0} (good strict : List ℕ → Bool) (test : A → Bool) (read : List ℕ → A) (w : ℕ) → ((ws : List ℕ) → good ws ≡ true → test (read ws) ≡ true → strict ws ≡ true) →
+    (n : ℕ) (ws : List ℕ) → every_entry n w good ws ≡ true → all test (entries n w read ws) ≡ true → every_entry n w strict ws ≡ true
+unfolding every_entry entries all
+every_from good strict test read w f zero ws h k = refl
+every_from good strict test read w f (suc n) ws h k =
+    let g = and_parts (good ws) (every_entry n w good (drop w ws)) h in
+    let t = and_parts (test (read ws)) (all test (entries n w read (drop w ws))) k in
+    and_from (strict ws) (every_entry n w strict (drop w ws)) (f ws g.0 t.0) (every_from good strict test read w f n (drop w ws) g.1 t.1)
+
+-- the test that lets everything through
+pub every_true : (n w : ℕ) (ws : List ℕ) → every_entry n w (λ vs. true) ws ≡ true
+unfolding every_entry
+every_true zero w ws = refl
+every_true (suc n) w ws = every_true n w (drop w ws)
+
+pub every_weaker : (strict good : List ℕ → Bool) (w : ℕ) → ((ws : List ℕ) → strict ws ≡ true → good ws ≡ true) → (n : ℕ) (ws : List ℕ) → every_entry n w strict ws ≡ true → every_entry n w good ws ≡ true
+unfolding every_entry
+every_weaker strict good w f zero ws h = refl
+every_weaker strict good w f (suc n) ws h =
+    let g = and_parts (strict ws) (every_entry n w strict (drop w ws)) h in
+    and_from (good ws) (every_entry n w good (drop w ws)) (f ws g.0) (every_weaker strict good w f n (drop w ws) g.1)
 
 -- ---- edges
 edge_strict : (m : Board) (fleet : Bool) (ws : List ℕ) → good_edge m fleet (edge_in ws) ≡ true → ends_on (length m.regions) ws ≡ true

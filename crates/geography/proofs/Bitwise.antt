@@ -55,6 +55,14 @@ pub bit_set : (w k j : ℕ) → k < 64 → bit (bit_or w ((1 * 2 ^ k) % 2 ^ 64))
 bit_set w k j h =
     ap (λ n. bit (bit_or w n) j) (one_shl k 64 h) ∙ bit_or_lem w (2 ^ k) j ∙ ap (λ b. bit w j || b) (bit_pow k j) ∙ or_swap (bit w j) (eqb j k)
 
+-- both words at once
+pub has_union : (s t : RegionSet) (q : ℕ) → has (record { low = bit_or s.low t.low; high = bit_or s.high t.high }) q ≡ (has s q || has t q)
+has_union s t q = both (ltb q 64)
+  where
+    both : (b : Bool) → cond b (bit (bit_or s.low t.low) q) (bit (bit_or s.high t.high) (q - 64)) ≡ (cond b (bit s.low q) (bit s.high (q - 64)) || cond b (bit t.low q) (bit t.high (q - 64)))
+    both true = bit_or_lem s.low t.low q
+    both false = bit_or_lem s.high t.high (q - 64)
+
 pub has_none : (q : ℕ) → has (record { low = 0; high = 0 }) q ≡ false
 has_none q = none (ltb q 64)
   where
@@ -161,6 +169,19 @@ same_test true true f g = refl
 same_test true false f g = f refl
 same_test false true f g = sym (g refl)
 same_test false false f g = refl
+
+-- ---- lists with the same regions
+abbrev pub Like : List ℕ → List ℕ → Type 0
+Like rs ts = (q : ℕ) → is_in q rs ≡ is_in q ts
+
+any_false : (a : RegionSet) (qs : List ℕ) → ((q : ℕ) → is_in q qs ≡ true → has a q ≡ false) → any (has a) qs ≡ false
+unfolding any
+any_false a [] h = refl
+any_false a (q ∷ qs) h = or_from _ _ (h q (or_left _ _ (eq-eqb q q refl))) (any_false a qs (λ p e. h p (or_right _ _ e)))
+
+pub any_like : (a : RegionSet) (rs ts : List ℕ) → Like rs ts → any (has a) rs ≡ any (has a) ts
+any_like a rs ts like =
+    same_test _ _ (λ none. any_false a rs (λ q e. any_some a ts none q (sym (like q) ∙ e))) (λ none. any_false a ts (λ q e. any_some a rs none q (like q ∙ e)))
 
 pub has_same : (a b : RegionSet) → a.low ≡ b.low → a.high ≡ b.high → (q : ℕ) → has a q ≡ has b q
 has_same a b low high q = rw (low, high) refl

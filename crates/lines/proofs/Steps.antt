@@ -1,9 +1,13 @@
 -- One byte or word on, and the end, of loops over them. Assumes nothing.
 use Rattle.std.proofs.Common.{◌≡◌, ℕ, ◌+◌, ◌<◌, ◌≤◌, Bool, true, false, cond, ◌&&◌, eqb, List, [], ◌∷◌, ◌++◌, length, get_or, drop, Some, None, codes, Option, sym, refl, ap, ◌∙◌, append_assoc, append-nil, arith}
+use Rattle.std.specs.Prelude.{nat_eq}
+use Rattle.std.specs.List.{starts_with}
 use Rattle.std.proofs.lemmas.List.{drop_more, drop_all}
 use Rattle.std.proofs.lemmas.Bool.{eq-eqb}
 use Rattle.lines.specs.declared.numbers.Step.TheVariants.{Grows, Ends, Bad}
+use Rattle.lines.specs.declared.call.Key.TheVariants.{Begin, Turn}
 use Rattle.lines.specs.Numbers.{before, step_in, onward, finish, numbers_from, words_in}
+use Rattle.lines.specs.Calls.{under, call_in}
 
 pub byte_more : (xs : List ℕ) (i : ℕ) → i < length xs → drop i xs ≡ get_or xs i 0 ∷ drop (i + 1) xs
 byte_more xs i h = drop_more xs i 0 h
@@ -46,3 +50,12 @@ module _ (ws : List ℕ) (s : Option ℕ) (bs : List ℕ) (i : ℕ) (whole : Opt
 pub words_spaced : (bs : List ℕ) → 0 < length bs → get_or bs 0 0 ≡ 32 → words_in bs ≡ numbers_from None (drop 1 bs)
 words_spaced [] some h = absurd (omega arith)
 words_spaced (b ∷ bs) some h = ap (λ t. cond t (numbers_from None bs) None) (eq-eqb b 32 h)
+
+-- a line under the first key, and under the second
+pub call_begin : (line : List ℕ) → starts_with nat_eq line (codes "begin") ≡ true → call_in line ≡ under Begin (words_in (drop 5 line))
+call_begin line h = ap (λ t. cond t (under Begin (words_in (drop 5 line))) (cond (starts_with nat_eq line (codes "turn")) (under Turn (words_in (drop 4 line))) None)) h
+
+pub call_turn : (line : List ℕ) → starts_with nat_eq line (codes "begin") ≡ false → starts_with nat_eq line (codes "turn") ≡ true → call_in line ≡ under Turn (words_in (drop 4 line))
+call_turn line other h =
+    ap (λ t. cond t (under Begin (words_in (drop 5 line))) (cond (starts_with nat_eq line (codes "turn")) (under Turn (words_in (drop 4 line))) None)) other ∙
+    ap (λ t. cond t (under Turn (words_in (drop 4 line))) None) h

@@ -1,6 +1,6 @@
 -- Retreats by tables: closed regions, goals, how many go to each region, and who lands. Assumes nothing.
-use Rattle.std.proofs.Common.{◌≡◌, ℕ, suc, ◌+◌, ◌<◌, ◌≤◌, Bool, true, false, cond, not, ◌&&◌, ◌||◌, eqb, List, [], ◌∷◌, ◌++◌, map, length, get_or, drop, set, replicate, slice_get, Some, None, Option, sym, refl, ap, ◌∙◌, arith, ⊎_elim}
-use Rattle.std.proofs.lemmas.List.{drop_more, drop_all, get_or-map, get_or-replicate, get_or-set_same, get_or-set_other, length-map}
+use Rattle.std.proofs.Common.{◌≡◌, ℕ, suc, ◌+◌, ◌<◌, ◌≤◌, Bool, true, false, cond, not, ◌&&◌, ◌||◌, eqb, List, [], ◌∷◌, ◌++◌, map, length, get_or, drop, set, replicate, slice_get, Some, None, Option, sym, refl, ap, ◌∙◌, subst, arith, ⊎_elim}
+use Rattle.std.proofs.lemmas.List.{drop_more, drop_all, get_or_default, get_or-map, get_or-replicate, get_or-set_same, get_or-set_other, length-map, length-drop}
 use Rattle.std.specs.List.{filter_map, zip}
 use Rattle.std.specs.Option.{option_to_list}
 use Rattle.std.proofs.lemmas.Bool.{ne_eqb, eq-eqb, cases_eq}
@@ -19,6 +19,7 @@ use Rattle.retreats.specs.Retreating.{Retreating, Closed, goals_in, Counted, lan
 use Rattle.retreats.proofs.Elements.{one_if, added}
 use Rattle.tables.proofs.Folds.{no_unit}
 use Rattle.tables.proofs.Placement.{stand_at}
+use Rattle.tables.proofs.Regions.{region_at, region_same, region_put}
 use Rattle.tables.specs.ByRegion.{ByRegion}
 
 -- what reads past the end give
@@ -52,6 +53,42 @@ goals_le t (o ∷ goals) = go (is_just t o) (goals_le t goals)
     go : (b : Bool) → goals_in t goals ≤ length goals → cond b (suc (goals_in t goals)) (goals_in t goals) ≤ suc (length goals)
     go true h = omega arith
     go false h = omega arith
+
+-- x is what was read of the table at t
+pub counted_le : (counts : List ℕ) (goals : List (Option ℕ)) (i t x : ℕ) → Counted counts (drop i goals) → t < 256 → length counts ≡ 256 → x ≡ get_or counts t x → x ≤ length goals
+counted_le counts goals i t x h l long read =
+    let a = region_at 0 goals_in counts (drop i goals) t h l in
+    let b = get_or_default counts t x 0 (omega arith) in
+    let n = goals_le t (drop i goals) in
+    let d = length-drop i goals in
+    omega arith
+
+pub counted_past : (counts : List ℕ) (goals : List (Option ℕ)) (i : ℕ) → i < length goals → get_or goals i None ≡ None → Counted counts (drop (i + 1) goals) → Counted counts (drop i goals)
+unfolding gather
+counted_past counts goals i h none kept =
+    subst (Counted counts) (sym (goal_more goals i h)) (region_same 0 goals_in counts (drop (i + 1) goals) (get_or goals i None) (λ t. ap (λ o. goals_in t (o ∷ drop (i + 1) goals)) none) kept)
+
+pub counted_more : (counts : List ℕ) (goals : List (Option ℕ)) (i t x : ℕ) → i < length goals → t < 256 → length counts ≡ 256 → get_or goals i None ≡ Some t → x ≡ get_or counts t x →
+    Counted counts (drop (i + 1) goals) → Counted (set counts t (x + 1)) (drop i goals)
+unfolding gather
+counted_more counts goals i t x h l long some read kept =
+    subst (Counted (set counts t (x + 1))) (sym (goal_more goals i h)) (region_put 0 goals_in counts rest (get_or goals i None) t (x + 1) (omega arith) here there kept)
+  where
+    rest : List (Option ℕ)
+    rest = drop (i + 1) goals
+
+    open_up : (u : ℕ) (b : Bool) → eqb u t ≡ b → goals_in u (get_or goals i None ∷ rest) ≡ cond b (suc (goals_in u rest)) (goals_in u rest)
+    open_up u b e = ap (λ o. goals_in u (o ∷ rest)) some ∙ ap (λ s. cond {A = ℕ} s (suc (goals_in u rest)) (goals_in u rest)) e
+
+    here : goals_in t (get_or goals i None ∷ rest) ≡ x + 1
+    here =
+        let a = open_up t true (eq-eqb t t refl) in
+        let k : get_or counts t 0 ≡ x = get_or_default counts t 0 x (omega arith) ∙ sym read in
+        let n = region_at 0 goals_in counts rest t kept l in
+        omega arith
+
+    there : (u : ℕ) → (u ≡ t → ⊥) → goals_in u (get_or goals i None ∷ rest) ≡ goals_in u rest
+    there u apart = open_up u false (ne_eqb u t apart)
 
 -- what the table holds so far, with the goals that are left
 abbrev pub Tallied : List ℕ → List (Option ℕ) → List (Option ℕ) → Type 0

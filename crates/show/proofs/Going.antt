@@ -17,7 +17,7 @@ use Rattle.show.specs.Tables.{leaving, leaving_line}
 use Rattle.show.proofs.Lines.{same_lines}
 
 -- so many goals in t as there are who go there
-goals_of : (goal : Dislodged → Option ℕ) (t : ℕ) (ds : List Dislodged) → goals_in t (map goal ds) ≡ number (λ d. is_just t (goal d)) ds
+pub goals_of : (goal : Dislodged → Option ℕ) (t : ℕ) (ds : List Dislodged) → goals_in t (map goal ds) ≡ number (λ d. is_just t (goal d)) ds
 unfolding gather
 goals_of goal t [] = refl
 goals_of goal t (d ∷ ds) = ap (λ k. cond (is_just t (goal d)) (suc k) k) (goals_of goal t ds)

@@ -35,6 +35,9 @@ each_same give other a (suc k) h =
 pub same_lines : (give other : ℕ → List ℕ) (n : ℕ) → ((r : ℕ) → r < n → give r ≡ other r) → by_region n give ≡ by_region n other
 same_lines give other n h = each_same give other 0 n (λ r l. h r (omega arith))
 
+pub all_lines : (give : ℕ → List ℕ) (old now : List ℕ) (k n : ℕ) → k ≡ n → now ≡ old ++ by_region k give → now ≡ old ++ by_region n give
+all_lines give old now k n e h = h ∙ ap (λ i. old ++ by_region i give) e
+
 -- what is in the list of those below n that pass the test
 below_all : (test : ℕ → Bool) (r a k : ℕ) → r < a → is_in r (select test (count_up a k)) ≡ false
 unfolding gather any count_up

@@ -10,8 +10,10 @@ use Rattle.tables.specs.ByRegion.{ByRegion}
 use Rattle.tables.specs.Stands.{first_at, Tabled}
 use Rattle.tables.proofs.Regions.{region_at}
 use Rattle.show.specs.Words.{Names}
-use Rattle.show.specs.Reports.{report_line, move_line, report_at}
+use Rattle.show.specs.Game.{by_region}
+use Rattle.show.specs.Reports.{report_line, move_line, report_at, move_lines}
 use Rattle.show.specs.Tables.{written_by, wrote_at, Marked, marked_line}
+use Rattle.show.proofs.Lines.{same_lines}
 
 and_true : (b : Bool) → (b && true) ≡ b
 and_true true = refl
@@ -99,3 +101,7 @@ marked_line_lem names marked table ws xs r tabled marks l =
     go None e = refl
     go (Some x) e =
         ap (λ k. cond (any (addressed x.unit.power k) ws || x.dislodged) (report_line names x) []) (eqb-true r x.unit.region (found (λ y. eqb r y.unit.region) xs x e))
+
+pub marked_lines : (names : Names) (marked : List Bool) (table : List (Option Report)) (ws : List Written) (xs : List Report) (n : ℕ) → n ≤ 256 → Tabled (λ x. x.unit) table xs → Marked marked table ws → by_region n (λ r. marked_line names (get_or marked r false) (get_or table r None)) ≡ move_lines names n ws xs
+marked_lines names marked table ws xs n few tabled marks =
+    same_lines (λ r. marked_line names (get_or marked r false) (get_or table r None)) (λ r. move_line names ws (report_at xs r)) n (λ r l. marked_line_lem names marked table ws xs r tabled marks (omega arith))

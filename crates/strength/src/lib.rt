@@ -5,4 +5,4 @@ pub mod round;
 pub mod strengths;
 pub mod support;
 
-pub use round::Round;
+pub use round::{Round, path_at};

@@ -5,4 +5,4 @@ pub mod standing;
 pub mod table;
 
 pub use standing::Standing;
-pub use table::by_region;
+pub use table::{by_region, filled};

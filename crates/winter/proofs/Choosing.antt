@@ -1,5 +1,5 @@
 -- The numbers below a bound, as ranges and chains of iterators give them. Assumes nothing.
-use Rattle.std.proofs.Common.{◌≡◌, ℕ, zero, suc, ◌+◌, ◌<◌, ◌≤◌, Bool, true, ◌||◌, ltb, eqb, List, [], ◌∷◌, ◌++◌, length, get_or, take, map, filter, Some, None, Option, sym, refl, ap, ◌∙◌, arith}
+use Rattle.std.proofs.Common.{◌≡◌, ℕ, zero, suc, ◌+◌, ◌-◌, ◌<◌, ◌≤◌, Bool, true, false, ◌||◌, ltb, eqb, List, [], ◌∷◌, ◌++◌, length, get_or, take, map, filter, Some, None, Option, sym, refl, ap, ◌∙◌, arith}
 use Rattle.std.specs.List.{range_with_len, filter_map}
 use Rattle.std.specs.Option.{option_to_list}
 use Rattle.std.specs.Iterator.{Yields}
@@ -40,6 +40,35 @@ in_more q (k ∷ ns) n = ap (λ b. eqb q k || b) (in_more q ns n) ∙ swap (eqb 
   where
     swap : (a b c : Bool) → (a || (b || c)) ≡ (b || (a || c))
     swap a b c = grind arith
+
+-- ---- the first of a list, and of two lists, one behind the other
+pub take_one : {A : Type 0} (k : ℕ) (x : A) (xs : List A) → 0 < k → take k (x ∷ xs) ≡ x ∷ take (k - 1) xs
+take_one k x xs h = let e : k ≡ suc (k - 1) = omega arith in ap (λ j. take j (x ∷ xs)) e
+
+pub take_both : (k : ℕ) (xs ys : List ℕ) → take k (xs ++ ys) ≡ take k xs ++ take (k - length xs) ys
+take_both k [] ys = none k ∙ (let e : k ≡ k - 0 = omega arith in ap (λ j. take {A = ℕ} k [] ++ take j ys) e)
+  where
+    none : (j : ℕ) → take j ys ≡ take {A = ℕ} j [] ++ take j ys
+    none zero = refl
+    none (suc j) = refl
+take_both zero (x ∷ xs) ys = let e : 0 - suc (length xs) ≡ 0 = omega arith in ap (λ j. take j ys) (sym e)
+take_both (suc k) (x ∷ xs) ys = ap (λ l. x ∷ l) (take_both k xs ys ∙ (let e : k - length xs ≡ suc k - suc (length xs) = omega arith in ap (λ j. take k xs ++ take j ys) e))
+
+pub in_both : (q : ℕ) (xs ys : List ℕ) → is_in q (xs ++ ys) ≡ (is_in q xs || is_in q ys)
+unfolding any
+in_both q [] ys = refl
+in_both q (x ∷ xs) ys = ap (λ b. eqb q x || b) (in_both q xs ys) ∙ group (eqb q x) (is_in q xs) (is_in q ys)
+  where
+    group : (a b c : Bool) → (a || (b || c)) ≡ ((a || b) || c)
+    group a b c = grind arith
+
+-- chosen from the first list, then what is left from the second
+pub chosen_both : (k left : ℕ) (xs ys : List ℕ) (none first second : ℕ → Bool) → left ≡ k - length xs → ((q : ℕ) → none q ≡ false) →
+    ((q : ℕ) → first q ≡ (none q || is_in q (take k xs))) → ((q : ℕ) → second q ≡ (first q || is_in q (take left ys))) →
+    (q : ℕ) → second q ≡ is_in q (take k (xs ++ ys))
+chosen_both k left xs ys none first second el en ef es q =
+    es q ∙ ap (λ b. b || is_in q (take left ys)) (ef q ∙ ap (λ b. b || is_in q (take k xs)) (en q)) ∙ ap (λ j. is_in q (take k xs) || is_in q (take j ys)) el ∙
+    sym (ap (is_in q) (take_both k xs ys) ∙ in_both q (take k xs) (take (k - length xs) ys))
 
 -- ---- what the numbers give
 each_is : {A : Type 0} (give : ℕ → Option A) (ns : List ℕ) → filter_map give ns ≡ each (λ n. option_to_list (give n)) ns
