@@ -1,5 +1,5 @@
 // Tables by region, made once for all rounds: units and orders never change while they are decided.
-ghost use Rattle.std.specs.Prelude.{◌≡◌, ℕ, ◌≤◌, length, IfOk, vec_len};
+ghost use Rattle.std.specs.Prelude.{◌≡◌, ℕ, ◌≤◌, [], ◌∷◌, ◌++◌, length, map, set, get_or, IfOk, OnOk, vec_len, vec_items};
 ghost use Rattle.assignment.specs.Places.{acts};
 
 use super::resolution::Resolution;
@@ -27,6 +27,16 @@ pub fn acts(o: Order) -> bool
     }
 }
 
+// The place `i` behind those that are aimed at `to` so far.
+fn file(aimed: &mut Vec<Vec<u8>>, to: u8, i: u8) -> Result<(), AllocError>
+    requires { vec_len aimed.old ≡ 256 }
+    ensures long { vec_len aimed.new ≡ 256 }
+    ensures filed { OnOk result (map vec_items aimed.new.items ≡ set (map vec_items aimed.old.items) to (get_or (map vec_items aimed.old.items) to [] ++ i ∷ [])) }
+{
+    aimed[to as usize].push(i)?;
+    Ok(())
+}
+
 impl Lookup {
     ghost use Rattle.assignment.specs.Lookup.{Indexed};
 
@@ -39,7 +49,7 @@ impl Lookup {
         for (i, x) in xs.iter().enumerate().rev() {
             let i = i as u8;
             if acts(x.order) {
-                aimed[x.order.aim() as usize].push(i)?;
+                file(&mut aimed, x.order.aim(), i)?;
             }
             place[x.unit.region as usize] = Some(i);
         }

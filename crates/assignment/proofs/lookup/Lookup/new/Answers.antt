@@ -1,10 +1,10 @@
 use Rattle.std.proofs.Common.{rules, ◌≡◌, length, ℕ, ◌-◌, ◌<◌, List, [], ◌∷◌, ◌++◌, map, get_or, drop, set, replicate, Some, vec_items, arith, sym, ap, ◌∙◌, subst, refl, inl, inr}
-use Rattle.std.proofs.lemmas.List.{map-set, get_or-map, length_push, length-map, nil_from_length}
+use Rattle.std.proofs.lemmas.List.{length_push, length-map, nil_from_length}
 use Rattle.board.specs.Order.{aim}
 use Rattle.assignment.proofs.Tabled.{Filled, all_empty, filled_none, filled_pass, filled_more, filled_all}
 use Rattle.assignment.proofs.Numbered.{YieldsList-from_rev_numbered, numbered_turn, numbered_end}
 use Rattle.assignment.proofs.lookup.Lookup.new.Goals as goal
-use Rattle.assignment.proofs.lookup.Lookup.new.Goals.{then-acts+in_ok-push, else-acts}
+use Rattle.assignment.proofs.lookup.Lookup.new.Goals.{then-acts+in_ok-file, else-acts}
 
 pub loop-i-init : goal.loop-i-init
 loop-i-init c =
@@ -38,15 +38,11 @@ loop-i-preserved c =
       able = search rules;
       finite = search rules;
       places = search rules;
-      targets = elim c.if-acts.branch [ then-acts+in_ok-push w ↦ search rules | else-acts w ↦ search rules ];
+      targets = elim c.if-acts.branch [ then-acts+in_ok-file w ↦ search rules | else-acts w ↦ search rules ];
       filled = elim c.if-acts.branch [
-        | then-acts+in_ok-push w ↦
-            let to_one = w.aim.result in
-            let long : to_one < length (vec_items c.loop-i.aimed) = omega (arith, w.aim.type_inv, c.loop-i.aimed.ok.0, c.loop-i.invariant.targets) in
-            let old : vec_items w.index_mut.result.now ≡ get_or aimed to_one [] = ap vec_items w.index_mut.ensures.value ∙ sym (get_or-map vec_items (vec_items c.loop-i.aimed) to_one w.index_mut.result.now [] long) in
+        | then-acts+in_ok-file w ↦
             let new : map vec_items (vec_items c.if-acts.aimed) ≡ set aimed (aim x.order) (get_or aimed (aim x.order) [] ++ c.in-Some.i ∷ []) =
-            ap (λ v. map vec_items (vec_items v)) w.aimed-is ∙ map-set vec_items (vec_items c.loop-i.aimed) to_one w.push.new.self ∙
-            ap (set aimed to_one) (w.in_ok-push.ensures.items ∙ ap (λ ys. ys ++ c.in-Some.i ∷ []) old) ∙ ap (λ q. set aimed q (get_or aimed q [] ++ c.in-Some.i ∷ [])) w.aim.ensures in
+            ap (λ v. map vec_items (vec_items v)) w.aimed-is ∙ w.in_ok-file.ensures.filed ∙ ap (λ q. set aimed q (get_or aimed q [] ++ c.in-Some.i ∷ [])) w.aim.ensures in
             subst to (sym new) (filled_more place aimed all n _ c.in-Some.i x t one (omega arith) wide c.loop-i.invariant.filled (sym c.acts.ensures ∙ w.if-acts.true)
             (length-map (vec_items c.loop-i.aimed) vec_items ∙ sym c.loop-i.aimed.ok.0 ∙ c.loop-i.invariant.targets) (subst (λ q. q < 256) w.aim.ensures w.aim.type_inv))
         | else-acts w ↦
