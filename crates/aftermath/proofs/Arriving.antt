@@ -1,6 +1,6 @@
 -- Who came where, from a table filled from the back: who is dislodged, from where, and which regions were contested. Assumes nothing.
 use Rattle.std.proofs.Common.{◌≡◌, ℕ, zero, suc, ◌+◌, ◌<◌, Bool, true, false, cond, ◌&&◌, ◌||◌, eqb, ltb, leb, List, [], ◌∷◌, length, get_or, set, Some, None, is_some, MatchOption, Option, sym, refl, ap, ◌∙◌, ⊎_elim, arith}
-use Rattle.std.proofs.lemmas.List.{get_or_default, get_or-map}
+use Rattle.std.proofs.lemmas.List.{get_or-map}
 use Rattle.std.proofs.lemmas.Bool.{cases_Bool, eqb-true, eq-eqb, ne_eqb}
 use Rattle.values.specs.Fold.{gather, any, select, count_up, those, is_in}
 use Rattle.values.specs.declared.tri.Tri.{Tri}
@@ -78,10 +78,7 @@ yes_and : (v t : Tri) → is_yes (and_tri (not_tri v) t) ≡ (is_no v && is_yes 
 yes_and v t = grind arith
 
 -- a is what was read of the table
-read_is : (table : List (Option Arrival)) (xs : List Resolution) (r : ℕ) (a : Option Arrival) → Arrived table xs → r < 256 → length table ≡ 256 → a ≡ get_or table r a → a ≡ arrival_in r xs
-read_is table xs r a arrived l long e = e ∙ get_or_default table r a None (omega (arith, l, long)) ∙ region_at None arrival_in table xs r arrived l
-
-pub dislodged_is : (table : List (Option Arrival)) (xs : List Resolution) (x : Resolution) (a : Option Arrival) → Arrived table xs → x.unit.region < 256 → length table ≡ 256 → a ≡ get_or table x.unit.region a →
+pub dislodged_is : (table : List (Option Arrival)) (xs : List Resolution) (x : Resolution) (a : Option Arrival) → Arrived table xs → x.unit.region < 256 → length table ≡ 256 → a ≡ get_or table x.unit.region None →
     is_dislodged xs x ≡ cond (is_move x.order) (is_no x.value && is_some a) (is_some a)
 dislodged_is table xs x a arrived l long e = go (is_move x.order)
   where
@@ -89,14 +86,14 @@ dislodged_is table xs x a arrived l long e = go (is_move x.order)
     r = x.unit.region
 
     who : is_yes (entered r xs) ≡ is_some a
-    who = entered_is r xs ∙ ap is_some (sym (read_is table xs r a arrived l long e))
+    who = entered_is r xs ∙ ap is_some (sym (region_at None arrival_in table xs r arrived l) ∙ sym e)
 
     go : (b : Bool) → is_yes (cond b (and_tri (not_tri x.value) (entered r xs)) (entered r xs)) ≡ cond b (is_no x.value && is_some a) (is_some a)
     go true = yes_and x.value (entered r xs) ∙ ap (λ s. is_no x.value && s) who
     go false = who
 
-pub from_is : (table : List (Option Arrival)) (xs : List Resolution) (r : ℕ) (a : Option Arrival) → Arrived table xs → r < 256 → length table ≡ 256 → a ≡ get_or table r a → came_from a ≡ attacked_from r xs
-from_is table xs r a arrived l long e = ap came_from (read_is table xs r a arrived l long e) ∙ sym (origin_is r xs)
+pub from_is : (table : List (Option Arrival)) (xs : List Resolution) (r : ℕ) → Arrived table xs → r < 256 → came_from (get_or table r None) ≡ attacked_from r xs
+from_is table xs r arrived l = ap came_from (region_at None arrival_in table xs r arrived l) ∙ sym (origin_is r xs)
 
 -- ---- which regions were contested
 in_count_up : (q a k : ℕ) (test : ℕ → Bool) → is_in q (select test (count_up a k)) ≡ ((leb a q && ltb q (a + k)) && test q)

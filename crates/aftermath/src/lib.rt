@@ -2,9 +2,9 @@
 #![tactic(auto)]
 
 pub mod after_moves;
-pub mod arrivals;
+pub mod arrived;
 pub mod owners;
 
-pub use after_moves::contested;
-pub use arrivals::Arrivals;
+pub use after_moves::{Arrival, arrivals, contested, displaced, standing};
+pub use arrived::Arrivals;
 pub use owners::new_owners;

@@ -1,11 +1,13 @@
 // Rounds: all orders decided anew, until nothing changes.
 ghost use Rattle.std.specs.Prelude.{◌≡◌, ◌≤◌, false, length, vec_len, vec_capacity};
 ghost use Rattle.board.specs.Atlas.{board_of};
+ghost use Rattle.assignment.specs.Places.{Inside};
+ghost use Rattle.assignment.specs.Lookup.{Indexed};
 ghost use Rattle.paths.specs.Paths.{paths_of};
 ghost use Rattle.deciding.specs.Rounds.{round, decided};
 
 use super::slate::Slate;
-use assignment::{Orders, Resolution};
+use assignment::{Lookup, Orders, Resolution};
 use board::Atlas;
 use paths::paths_into;
 use std::mem::swap;
@@ -46,29 +48,50 @@ pub fn round_into(known: Round, out: &mut Vec<Resolution>) -> bool
     changed
 }
 
-impl Slate {
-    // One round; whether something changed.
-    fn round(&mut self, atlas: &Atlas) -> bool
-        ensures items { self.new.orders.items ≡ round (board_of atlas.now) self.old.orders.items }
-        ensures still { result ≡ false → self.new.orders.items ≡ self.old.orders.items }
-        ensures len { vec_len self.new.orders ≡ vec_len self.old.orders }
-    {
-        let orders = Orders::new(&self.lookup, self.orders.as_slice());
-        paths_into(atlas, orders, &mut self.dislodged, &mut self.paths);
-        let known = known(atlas, orders, self.paths.as_slice());
-        let changed = round_into(known, &mut self.spare);
-        swap(&mut self.orders, &mut self.spare);
-        changed
+// As many rounds as units and one more, or until one changes nothing.
+pub fn decide_all(
+    atlas: &Atlas,
+    lookup: &Lookup,
+    xs: &mut Vec<Resolution>,
+    spare: &mut Vec<Resolution>,
+    dislodged: &mut Vec<Tri>,
+    paths: &mut Vec<Tri>,
+)
+    requires indexed { Indexed lookup.now xs.old.items }
+    requires inside { Inside xs.old.items }
+    requires room { 128 ≤ vec_capacity xs.old }
+    requires spare { 128 ≤ vec_capacity spare.old }
+    requires dislodged { 128 ≤ vec_capacity dislodged.old }
+    requires paths { 128 ≤ vec_capacity paths.old }
+    ensures items { xs.new.items ≡ decided (board_of atlas.now) xs.old.items }
+    ensures indexed { Indexed lookup.now xs.new.items }
+    ensures inside { Inside xs.new.items }
+    ensures room { (128 ≤ vec_capacity xs.new) × (128 ≤ vec_capacity spare.new) }
+    ensures tables { (128 ≤ vec_capacity dislodged.new) × (128 ≤ vec_capacity paths.new) }
+{
+    for _ in 0..=xs.len() {
+        let orders = Orders::new(lookup, xs.as_slice());
+        paths_into(atlas, orders, dislodged, paths);
+        let known = known(atlas, orders, paths.as_slice());
+        let changed = round_into(known, spare);
+        swap(xs, spare);
+        if !changed {
+            break;
+        }
     }
+}
 
-    // As many rounds as units and one more, or until one changes nothing.
+impl Slate {
     pub fn decide_all(&mut self, atlas: &Atlas)
         ensures { self.new.orders.items ≡ decided (board_of atlas.now) self.old.orders.items }
     {
-        for _ in 0..=self.orders.len() {
-            if !self.round(atlas) {
-                break;
-            }
-        }
+        decide_all(
+            atlas,
+            &self.lookup,
+            &mut self.orders,
+            &mut self.spare,
+            &mut self.dislodged,
+            &mut self.paths,
+        );
     }
 }

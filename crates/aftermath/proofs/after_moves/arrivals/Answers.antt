@@ -6,7 +6,7 @@ use Rattle.aftermath.specs.Arrivals.{arrival_in, Arrived}
 use Rattle.aftermath.proofs.Arriving.{arrived_past, arrived_more}
 use Rattle.tables.proofs.Regions.{region_none}
 use Rattle.tables.proofs.Stands.{none_alone}
-use Rattle.aftermath.proofs.arrivals.Arrivals.of.Goals as goal
+use Rattle.aftermath.proofs.after_moves.arrivals.Goals as goal
 
 pub loop-x-init : goal.loop-x-init
 unfolding gather
@@ -31,10 +31,7 @@ loop-x-preserved c =
     let x = c.in-Some.x.now in
     (c.loop-x.invariant.0, back_more (Arrived (vec_items c.loop-x.table)) xs c.loop-x.yielded c.in-Some.x x t (arrived_past (vec_items c.loop-x.table) x _ (sym c.succeeded.ensures ∙ c.if-succeeded.false) c.loop-x.invariant.1))
 
-pub invariant_of-result : goal.invariant_of-result
-invariant_of-result c =
+pub returns : goal.returns
+returns c =
     let xs = c.args.xs.now in
-    record {
-      long = c.loop-x.invariant.0;
-      arrived = back_all (Arrived (vec_items c.loop-x.table)) xs c.loop-x.yielded (back_end xs (YieldsList-from_rev_slice xs (cc)) c.loop-x.yielded _ c.loop-x.yielded_by _ _ c.in-None.is c.next.ensures.steps) c.loop-x.invariant.1;
-    }
+    (c.loop-x.invariant.0, back_all (Arrived (vec_items c.loop-x.table)) xs c.loop-x.yielded (back_end xs (YieldsList-from_rev_slice xs (cc)) c.loop-x.yielded _ c.loop-x.yielded_by _ _ c.in-None.is c.next.ensures.steps) c.loop-x.invariant.1)
