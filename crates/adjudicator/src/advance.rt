@@ -9,7 +9,7 @@ ghost use Rattle.position.specs.Position.{board_of, game_of};
 ghost use Rattle.adjudicator.specs.Settled.{settled, owned};
 ghost use Rattle.adjudicator.specs.Told.{told_in, told};
 
-use super::moves::play_moves;
+use super::moves::{leave, play_moves};
 use super::rest::{retreat, winter};
 use aftermath::new_owners;
 use board::Unit;
@@ -27,10 +27,7 @@ fn moves(heap: Global, p: &mut Position, texts: &Texts) -> Result<Vec<Report>, A
     ensures reports { IfOk result (λ v. v.items ≡ reports (board_of p.old) (ordered (game_of p.old).units texts.now.list.items)) }
 {
     let moved = play_moves(heap, p, texts)?;
-    p.units = moved.units;
-    p.dislodged = moved.dislodged;
-    p.barred = moved.barred;
-    p.phase = p.phase.next();
+    leave(p, moved.units, moved.dislodged, moved.barred);
     Ok(moved.reports)
 }
 

@@ -1,9 +1,11 @@
 // Moves on a position: orders as played, decided, and what they leave.
-ghost use Rattle.std.specs.Prelude.{◌≡◌, IfOk, OnOk};
+ghost use Rattle.std.specs.Prelude.{◌≡◌, true, IfOk, OnOk};
+ghost use Rattle.game.specs.Lawful.{lawful};
 ghost use Rattle.game.specs.Texts.{ordered};
 ghost use Rattle.position.specs.Position.{board_of, game_of};
 ghost use Rattle.deciding_laws.specs.Promises.{DecidingPromises};
 ghost use Rattle.adjudicator.specs.Moved.{MovedBy, SameOutcome};
+ghost use Rattle.adjudicator.specs.Settled.{left};
 
 use aftermath::{Arrivals, contested};
 use board::Unit;
@@ -40,4 +42,21 @@ pub fn play_moves(heap: Global, p: &Position, texts: &Texts) -> Result<Moved, Al
         barred,
         reports,
     })
+}
+
+// What moves leave on the position, and the next phase.
+pub(super) fn leave(
+    p: &mut Position,
+    units: Vec<Unit>,
+    dislodged: Vec<Dislodged>,
+    barred: RegionSet,
+)
+    requires { lawful (board_of p.old) (left p.old units.items dislodged.items barred) ≡ true }
+    ensures board { board_of p.new ≡ board_of p.old }
+    ensures game { game_of p.new ≡ left p.old units.items dislodged.items barred }
+{
+    p.units = units;
+    p.dislodged = dislodged;
+    p.barred = barred;
+    p.phase = p.phase.next();
 }
