@@ -29,7 +29,7 @@ returns c = λ q.
     (YieldsList-from_chain
     (YieldsList-at c.chain.ensures.first (YieldsList-from_filter _ first (YieldsList-from_range 0 c.len-n.result n (cc) (omega (arith, s.atlas.now.regions.ok.0))) c.filter-struck.ensures.closure (λ x b q k. search (rules, tests))))
     (YieldsList-at c.chain.ensures.second (YieldsList-from_filter _ others (YieldsList-from_range 0 c.len-n.result n (cc) (omega (arith, s.atlas.now.regions.ok.0))) c.filter-others.ensures.closure (λ x b q k. search (rules, tests)))) c.chain.ensures.first_done
-    c.chain.ensures.second_done)) c.take-r-items.ensures.count)) in
+    c.chain.ensures.second_done)) (search rules))) in
     c.loop-r.invariant q ∙ ap (is_in q) (sym (map-id c.loop-r.yielded) ∙ end.0 ∙ ap (take c.args.most) (order_is m s.power ws s.units.now held c.held-held.ensures))
 
 pub loop-r-init : goal.loop-r-init
@@ -55,7 +55,7 @@ insert-requires c =
     (YieldsList-from_chain
     (YieldsList-at c.chain.ensures.first (YieldsList-from_filter _ first (YieldsList-from_range 0 c.len-n.result n (cc) (omega (arith, s.atlas.now.regions.ok.0))) c.filter-struck.ensures.closure (λ x b q k. search (rules, tests))))
     (YieldsList-at c.chain.ensures.second (YieldsList-from_filter _ others (YieldsList-from_range 0 c.len-n.result n (cc) (omega (arith, s.atlas.now.regions.ok.0))) c.filter-others.ensures.closure (λ x b q k. search (rules, tests)))) c.chain.ensures.first_done
-    c.chain.ensures.second_done)) c.take-r-items.ensures.count)) in
+    c.chain.ensures.second_done)) (search rules))) in
     let order = ap (take c.args.most) (order_is m s.power ws s.units.now held c.held-held.ensures) in
     let below = order_below m s.power ws s.units.now c.args.most i r (omega (arith, turn.0, ap length order)) in
     let small = board_small m s.atlas.now.good in
